@@ -1,0 +1,2 @@
+-- Proofs that callers cite.
+pub mod Rule

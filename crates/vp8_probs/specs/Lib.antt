@@ -1,0 +1,2 @@
+-- The tables, as a reader must believe them.
+pub mod Tables

@@ -1,0 +1,57 @@
+-- The nested records and one flat run of their numbers: entry (i, j, k, l) stands at ((8i + j) · 3 + k) · 11 + l.
+use Prim.Native.Nat.{ℕ, zero, suc}
+use mathlib.Core.List.{List, [], _∷_, _++_}
+use lib.ListN.{take, drop}
+use Rattle.vp8_records.specs.declared.Tokens.{Tokens}
+use Rattle.vp8_records.specs.declared.Contexts.{Contexts}
+use Rattle.vp8_records.specs.declared.Bands.{Bands}
+use Rattle.vp8_records.specs.declared.CoeffProbs.{CoeffProbs}
+use Rattle.vp8_records.specs.declared.MvContext.{MvContext}
+use Rattle.vp8_records.specs.declared.MvProbs.{MvProbs}
+
+-- k parts, each made of n numbers of a run
+unfoldable pub rows : {A : Type 0} → ℕ → ℕ → (List ℕ → A) → List ℕ → List A
+rows zero n f xs = []
+rows (suc k) n f xs = f xs ∷ rows k n f (drop n xs)
+
+-- the runs of all parts, in order
+unfoldable pub joined : {A B : Type 0} → (A → List B) → List A → List B
+joined f [] = []
+joined f (x ∷ xs) = f x ++ joined f xs
+
+abbrev pub laidTokens : List ℕ → Tokens
+laidTokens xs = record { v = take 11 xs }
+
+abbrev pub laidContexts : List ℕ → Contexts
+laidContexts xs = record { v = rows 3 11 laidTokens xs }
+
+abbrev pub laidBands : List ℕ → Bands
+laidBands xs = record { v = rows 8 33 laidContexts xs }
+
+abbrev pub laidCoeffs : List ℕ → CoeffProbs
+laidCoeffs xs = record { v = rows 4 264 laidBands xs }
+
+abbrev pub flatTokens : Tokens → List ℕ
+flatTokens r = r .v
+
+abbrev pub flatContexts : Contexts → List ℕ
+flatContexts r = joined flatTokens (r .v)
+
+abbrev pub flatBands : Bands → List ℕ
+flatBands r = joined flatContexts (r .v)
+
+abbrev pub flatCoeffs : CoeffProbs → List ℕ
+flatCoeffs r = joined flatBands (r .v)
+
+-- the motion probabilities: entry (i, j) stands at 19i + j
+abbrev pub laidMvContext : List ℕ → MvContext
+laidMvContext xs = record { v = take 19 xs }
+
+abbrev pub laidMv : List ℕ → MvProbs
+laidMv xs = record { v = rows 2 19 laidMvContext xs }
+
+abbrev pub flatMvContext : MvContext → List ℕ
+flatMvContext r = r .v
+
+abbrev pub flatMv : MvProbs → List ℕ
+flatMv r = joined flatMvContext (r .v)
