@@ -211,8 +211,8 @@ impl ModeProbs {
         ensures { λ r. ⌜ r ≡ freshModes ⌝ }
     {
         ModeProbs {
-            intra_16x16_prob: vp8_probs::NK_Y_MODE_PROBS,
-            intra_chroma_prob: vp8_probs::NK_UV_MODE_PROBS,
+            intra_16x16_prob: vp8_probs::tables::NK_Y_MODE_PROBS,
+            intra_chroma_prob: vp8_probs::tables::NK_UV_MODE_PROBS,
         }
     }
 
@@ -221,8 +221,8 @@ impl ModeProbs {
         ensures { λ r. ⌜ r ≡ keyModes ⌝ }
     {
         ModeProbs {
-            intra_16x16_prob: vp8_probs::KF_Y_MODE_PROBS,
-            intra_chroma_prob: vp8_probs::KF_UV_MODE_PROBS,
+            intra_16x16_prob: vp8_probs::tables::KF_Y_MODE_PROBS,
+            intra_chroma_prob: vp8_probs::tables::KF_UV_MODE_PROBS,
         }
     }
 
@@ -294,7 +294,7 @@ impl CoeffProbs {
     pub fn new() -> Self
         ensures { λ r. ⌜ r ≡ freshCoeffs ⌝ }
     {
-        let flat = vp8_probs::COEFF_DEFAULT_PROBS;
+        let flat = vp8_probs::tables::COEFF_DEFAULT_PROBS;
         CoeffProbs::laid(&flat)
     }
 
@@ -335,7 +335,7 @@ impl MvProbs {
     pub fn new() -> Self
         ensures { λ r. ⌜ r ≡ freshMv ⌝ }
     {
-        let flat = vp8_probs::MV_DEFAULT_PROBS;
+        let flat = vp8_probs::tables::MV_DEFAULT_PROBS;
         MvProbs::laid(&flat)
     }
 

@@ -1,0 +1,2 @@
+-- The cases' one statement.
+pub mod Cases
