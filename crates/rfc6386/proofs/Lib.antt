@@ -1,0 +1,4 @@
+-- Theorems about the definition, and the laws that the proofs above cite.
+pub mod Trees
+pub mod Range
+pub mod Counts

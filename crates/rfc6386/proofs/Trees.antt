@@ -1,0 +1,53 @@
+-- Laws of trees: what a run of two reads one after the other is, and what holds of every value that a tree can read. Assumes nothing.
+use Prim.Native.Nat.{ℕ, zero, suc, _+_, _*_, _^_, _<_}
+use native.Mathlib.Nat.{pow-suc, add-zero, zero-add, add-suc, suc-add}
+use native.Mathlib.Omega.{arith}
+use mathlib.Core.Path.{_≡_, refl, ap, sym, _∙_, fun-ext}
+use mathlib.Core.Bool.{Bool, true, false}
+use Rattle.rfc6386.specs.Decoder.{State, Out, readBool}
+use Rattle.rfc6386.specs.Reads.{Rd, ret, ask, _>>=_, run, flag, bit, litFrom, lit}
+
+pub run-bind : {A B : Type 0} (m : Rd A) (f : A → Rd B) (l : ℕ) (s : State) → run (m >>= f) l s ≡ run (f (run m l s .got)) l (run m l s .then)
+unfolding run _>>=_
+run-bind (ret a) f l s = refl
+run-bind (ask p k) f l s = run-bind (k (readBool l p s .got)) f l (readBool l p s .then)
+
+pub assoc : {A B C : Type 0} (m : Rd A) (f : A → Rd B) (g : B → Rd C) → (m >>= f) >>= g ≡ m >>= (λ a. f a >>= g)
+unfolding _>>=_
+assoc (ret a) f g = refl
+assoc (ask p k) f g = ap (ask p) (fun-ext (λ b. assoc (k b) f g))
+
+pub onward : {A B : Type 0} (m : Rd A) {f g : A → Rd B} → ((a : A) → f a ≡ g a) → m >>= f ≡ m >>= g
+onward {A} {B} m h = ap {A = A → Rd B} (λ k. m >>= k) (fun-ext h)
+
+-- P holds of what m reads, over every area and from every state
+abbrev pub Always : {A : Type 0} → (A → Type 0) → Rd A → Type 0
+Always P m = (l : ℕ) (s : State) → P (run m l s .got)
+
+pub always-ret : {A : Type 0} (P : A → Type 0) (a : A) → P a → Always P (ret a)
+unfolding run
+always-ret P a h l s = h
+
+pub always-bind : {A B : Type 0} (Q : A → Type 0) (P : B → Type 0) (m : Rd A) (f : A → Rd B)
+    → Always Q m → ((a : A) → Q a → Always P (f a)) → Always P (m >>= f)
+always-bind Q P m f h g l s = rw (run-bind m f l s) (g (run m l s .got) (h l s) l (run m l s .then))
+
+-- where nothing has to be known of the first value
+pub always-skip : {A B : Type 0} (P : B → Type 0) (m : Rd A) (f : A → Rd B) → ((a : A) → Always P (f a)) → Always P (m >>= f)
+always-skip P m f g = always-bind (λ a. Unit {0}) P m f (λ l s. tt) (λ a u. g a)
+
+bit-small : (x k : ℕ) (b : Bool) → x < 2 ^ k → x * 2 + bit b < 2 ^ suc k
+bit-small x k true h = rw pow-suc (omega arith)
+bit-small x k false h = rw pow-suc (omega arith)
+
+-- a literal of w bools after a number of k bits has k + w bits
+litFrom-small : (w x k : ℕ) → x < 2 ^ k → Always (λ y. y < 2 ^ (k + w)) (litFrom w x)
+unfolding litFrom
+litFrom-small zero x k h = always-ret (λ y. y < 2 ^ (k + 0)) x (rw add-zero h)
+litFrom-small (suc w) x k h =
+    let e : suc k + w ≡ k + suc w = suc-add k w ∙ sym (add-suc k w) in
+    always-skip (λ y. y < 2 ^ (k + suc w)) flag _ (λ b. rw e at (litFrom-small w (x * 2 + bit b) (suc k) (bit-small x k b h)))
+
+pub lit-small : (w : ℕ) → Always (λ y. y < 2 ^ w) (lit w)
+unfolding lit
+lit-small w = rw zero-add at (litFrom-small w 0 0 (omega arith))
