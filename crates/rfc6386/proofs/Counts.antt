@@ -3,14 +3,11 @@
 use Prim.Native.Nat.{ℕ, zero, suc, _+_, _*_, _≤_}
 use native.Mathlib.Nat.{mul-zero, mul-suc}
 use native.Mathlib.Omega.{arith}
-use mathlib.Core.Path.{_≡_, refl}
 use mathlib.Core.Bool.{Bool, true, false, not}
-use mathlib.Core.Option.{Option}
 use mathlib.Core.List.{List, [], _∷_}
 use lib.IntN.{ℤ, pos}
 use lib.ListN.{length}
 use Rattle.vp8_probs.specs.Tables.{coeffUpdate, mvUpdate}
-use Rattle.vp8_records.specs.declared.QuantIndices.{QuantIndices}
 use Rattle.rfc6386.specs.Decoder.{State, start, bits, readBool}
 use Rattle.rfc6386.specs.Reads.{Rd, ret, ask, _>>=_, run, bool, flag, when, litFrom, lit, sint, make, times, each, maybe, orElse}
 use Rattle.rfc6386.specs.Coded.{anew, features, segments, deltas, quant, refresh, coefficients, motion, modes, inter, noInter, header}

@@ -2,3 +2,5 @@
 pub mod Trees
 pub mod Range
 pub mod Counts
+pub mod Accepts
+pub mod Fills

@@ -4,7 +4,7 @@ use native.Mathlib.Nat.{pow-suc, add-zero, zero-add, add-suc, suc-add}
 use native.Mathlib.Omega.{arith}
 use mathlib.Core.Path.{_≡_, refl, ap, sym, _∙_, fun-ext}
 use mathlib.Core.Bool.{Bool, true, false}
-use Rattle.rfc6386.specs.Decoder.{State, Out, readBool}
+use Rattle.rfc6386.specs.Decoder.{State, readBool}
 use Rattle.rfc6386.specs.Reads.{Rd, ret, ask, _>>=_, run, flag, bit, litFrom, lit}
 
 pub run-bind : {A B : Type 0} (m : Rd A) (f : A → Rd B) (l : ℕ) (s : State) → run (m >>= f) l s ≡ run (f (run m l s .got)) l (run m l s .then)

@@ -1,6 +1,6 @@
 -- The second step of a call: what a frame's words make of the kept numbers (document 01, "What the parser keeps" and its refusal table).
 use Prim.Native.Nat.{ℕ, _/_, _%_, _^_}
-use mathlib.Core.Bool.{Bool, true, false}
+use mathlib.Core.Bool.{Bool, false}
 use mathlib.Core.Option.{Option, none, some}
 use mathlib.Core.List.{List, [], _∷_, _++_}
 use lib.ListN.{take, replicate}
@@ -19,7 +19,7 @@ use Rattle.vp8_records.specs.Start.{fresh, keyModes, blank}
 use Rattle.rfc6386.specs.Decoder.{pick}
 use Rattle.rfc6386.specs.Runs.{or, over}
 use Rattle.rfc6386.specs.Coded.{Coded, Segments, Deltas}
-use Rattle.rfc6386.specs.Frame.{Chunk, Snapshot, Body, beyond, empty, read, Said, refused, follows, decode}
+use Rattle.rfc6386.specs.Frame.{Chunk, Snapshot, beyond, empty, read, Said, refused, follows, decode}
 
 unfoldable pub segmented : Segments → Segmentation → Segmentation
 segmented c g = record {

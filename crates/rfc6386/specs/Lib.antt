@@ -3,7 +3,7 @@
 --   1. A frame's bytes say something, whatever the parser kept (Frame): the chunk, then, by a tree of reads (Coded, Reads) that the
 --      boolean decoder runs (Decoder), the coded fields, the decoder's snapshot and the partition sizes.
 --   2. What it says and the kept numbers make the answer: the outcome, the header and the new kept numbers (Call).
--- The tables are vp8_probs' Tables; the records with their starting values are vp8_records'.
+-- Fills says what it means that the parts of a frame fill it. The tables are vp8_probs' Tables; the records with their starting values are vp8_records'.
 pub mod Bytes
 pub mod Decoder
 pub mod Reads
@@ -11,3 +11,4 @@ pub mod Runs
 pub mod Coded
 pub mod Frame
 pub mod Call
+pub mod Fills

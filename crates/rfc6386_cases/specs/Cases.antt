@@ -1,7 +1,7 @@
 -- Document 01's cases marked P, as one list: 1 to 5 are frames, 13 to 18 reads of the bare decoder. Each says what goes in and what comes out.
 use Prim.Native.Nat.{ℕ}
 use mathlib.Core.Bool.{Bool, true, false}
-use mathlib.Core.List.{List, [], _∷_, map}
+use mathlib.Core.List.{List, [], _∷_}
 use lib.IntN.{pos}
 use lib.ListN.{replicate}
 use Rattle.vp8_records.specs.declared.Parser.{Parser}

@@ -1,0 +1,102 @@
+-- What an accepted call was made of: the definition's tests taken apart, once. By cases on each test. Assumes nothing.
+use Prim.Native.Nat.{ℕ, _+_, _%_, _^_, _≤_, _<_}
+use native.Mathlib.Omega.{arith}
+use mathlib.Core.Path.{_≡_, refl, ap}
+use mathlib.Core.Bool.{Bool, true, false}
+use mathlib.Core.Option.{Option, none, some}
+use mathlib.Core.List.{List, [], _∷_}
+use lib.Dec.{leb, ltb, eqb, lit<}
+use lib.ListN.{length, drop}
+use borrow.Author.Tests.{ltb-false}
+use Rattle.vp8_records.specs.declared.Parser.{Parser}
+use Rattle.vp8_records.specs.declared.Outcome.the-variants.{Accepted, ChunkTooShort, InvalidStartCode, FrameTooLong}
+use Rattle.vp8_records.specs.Outcome.{numberOf}
+use Rattle.rfc6386.specs.Bytes.{le3}
+use Rattle.rfc6386.specs.Decoder.{bits, start}
+use Rattle.rfc6386.specs.Reads.{run}
+use Rattle.rfc6386.specs.Coded.{Coded, header}
+use Rattle.rfc6386.specs.Frame.{Chunk, Opened, shut, opened, keyChunk, chunk, Snapshot, snapshot, sizes, Body, beyond, empty, read, headed, body, follows, inside, decode}
+use Rattle.rfc6386.specs.Call.{probsOf, probsOver, shown, apply, headerOf, base, answer, finish, call}
+
+-- what holds of both answers of a test holds of the one it picks
+pub choose : {A : Type 0} (P : A → Type 0) (b : Bool) (x y : A) → P x → P y → P (elim b [ true ↦ x | false ↦ y ])
+choose P true x y h g = h
+choose P false x y h g = g
+
+abbrev Shuts : Opened → Type 0
+Shuts (shut o) = 0 < numberOf o
+Shuts (opened k) = Unit {0}
+
+key-shuts : (f : List ℕ) → Shuts (keyChunk f)
+unfolding keyChunk
+key-shuts f =
+    choose Shuts (ltb (length f) 6) (shut ChunkTooShort) _ (lit< tt)
+    (choose Shuts (eqb (le3 f 3) 0x2a019d) _ (shut (InvalidStartCode (le3 f 3)))
+    (choose Shuts (ltb (length f) 10) (shut ChunkTooShort) _ (lit< tt) tt) (lit< tt))
+
+-- a chunk that is shut has a refusal's number
+pub shuts : (f : List ℕ) → Shuts (chunk f)
+unfolding chunk
+shuts f =
+    choose Shuts (leb (2 ^ 28) (length f)) (shut (FrameTooLong (length f))) _ (lit< tt)
+    (choose Shuts (ltb (length f) 3) (shut ChunkTooShort) _ (lit< tt) (choose Shuts (eqb (le3 f 0 % 2) 0) (keyChunk f) _ (key-shuts f) tt))
+
+-- a header that was read to its end
+pub record Reading (k : Chunk) (f : List ℕ) (c : Coded) (s : Snapshot) (ss : Option (List ℕ)) : Type 0 where
+  pub fits : k .size + k .first ≤ length f
+  pub coded : run (header (k .key)) (bits (drop (k .size) f)) (start (drop (k .size) f)) .got ≡ c
+  pub seen : snapshot (bits (drop (k .size) f)) (run (header (k .key)) (bits (drop (k .size) f)) (start (drop (k .size) f)) .then) ≡ s
+  pub parts : sizes (2 ^ c .log2parts) (drop (k .size) f) (k .first) ≡ ss
+
+body-read : (k : Chunk) (f : List ℕ) (c : Coded) (s : Snapshot) (ss : Option (List ℕ)) → body k f ≡ read c s ss → Reading k f c s ss
+unfolding body headed
+body-read k f c s ss e = go (ltb (length f) (k .size + k .first)) refl (drop (k .size) f) refl e
+  where
+    from : (b : Bool) (a : List ℕ) → Body
+    from b a = elim b [
+      | true ↦ beyond (k .size + k .first) (length f)
+      | false ↦ elim a [ [] ↦ empty | x ∷ xs ↦ headed k (x ∷ xs) (run (header (k .key)) (bits (x ∷ xs)) (start (x ∷ xs))) ]
+    ]
+
+    go : (b : Bool) → ltb (length f) (k .size + k .first) ≡ b → (a : List ℕ) → drop (k .size) f ≡ a → from b a ≡ read c s ss → Reading k f c s ss
+    go true h a g e = absurd (let z : _≡_ {A = ℕ} 0 1 = cc in omega arith)
+    go false h [] g e = absurd (let z : _≡_ {A = ℕ} 0 1 = cc in omega arith)
+    go false h (x ∷ xs) g e =
+        let o = run (header (k .key)) (bits (x ∷ xs)) (start (x ∷ xs)) in
+        let coded : o .got ≡ c = cc in
+        let seen : snapshot (bits (x ∷ xs)) (o .then) ≡ s = cc in
+        let parts : sizes (2 ^ o .got .log2parts) (x ∷ xs) (k .first) ≡ ss = cc in
+        record {
+          fits = ltb-false _ _ h;
+          coded = rw g coded;
+          seen = rw g seen;
+          parts = rw (g, ← coded) parts;
+        }
+
+-- an accepted call: what the frame said, and the answer that this makes
+pub record Accepting (p : Parser) (f : List ℕ) : Type 0 where
+  pub k : Chunk
+  pub c : Coded
+  pub s : Snapshot
+  pub ss : List ℕ
+  pub opens : chunk f ≡ opened k
+  pub reading : Reading k f c s (some ss)
+  pub answers : call p f ≡ answer Accepted (headerOf k c s ss (shown (k .key) (probsOver c (probsOf (base k p))))) (apply c (base k p))
+
+accepts-body : (p : Parser) (f : List ℕ) (k : Chunk) → chunk f ≡ opened k → call p f ≡ finish (follows k (body k f)) p
+    → finish (follows k (body k f)) p .outcome ≡ Accepted → Accepting p f
+accepts-body p f k o q = go (body k f) refl q
+  where
+    go : (b : Body) → body k f ≡ b → call p f ≡ finish (follows k b) p → finish (follows k b) p .outcome ≡ Accepted → Accepting p f
+    go (beyond x y) e q h = absurd (let z : _≡_ {A = ℕ} 0 1 = cc in omega arith)
+    go empty e q h = absurd (let z : _≡_ {A = ℕ} 0 1 = cc in omega arith)
+    go (read c s none) e q h = absurd (let z : _≡_ {A = ℕ} 0 1 = cc in omega arith)
+    go (read c s (some ss)) e q h = record { k = k; c = c; s = s; ss = ss; opens = o; reading = body-read k f c s (some ss) e; answers = q }
+
+pub accepted : (p : Parser) (f : List ℕ) → call p f .outcome ≡ Accepted → Accepting p f
+unfolding call decode
+accepted p f h = go (chunk f) refl (shuts f) h
+  where
+    go : (x : Opened) → chunk f ≡ x → Shuts x → finish (inside x f) p .outcome ≡ Accepted → Accepting p f
+    go (shut o) e z h = absurd (omega (arith, z, ap numberOf h))
+    go (opened k) e z h = accepts-body p f k e (ap (λ (x : Opened). finish (inside x f) p) e) h

@@ -1,0 +1,131 @@
+-- In an accepted frame the parts lie end to end and fill it, and the bools are within their bounds. The lengths add up to the frame's,
+-- and cuts of lengths that add up have those lengths and join to the whole. Assumes nothing.
+use Prim.Native.Nat.{ℕ, zero, suc, _+_, _-_, _*_, _^_, _≤_, _<_}
+use native.Mathlib.Omega.{arith}
+use native.Mathlib.Nat.{pow-le-pow-right}
+use mathlib.Core.Path.{_≡_, refl, sym, ap, ap₂, _∙_}
+use mathlib.Core.Bool.{Bool, true, false, not}
+use mathlib.Core.Option.{none, some}
+use mathlib.Core.List.{List, [], _∷_, _++_, map}
+use lib.Dec.{ltb}
+use lib.ListN.{length, take, drop, replicate, length-drop, length-append, take-append-drop}
+use lib.Pow.{pow-pos}
+use lib.Seq.{length-take-le, take-at, take-take}
+use borrow.Author.Tests.{ltb-false}
+use Rattle.vp8_records.specs.declared.Parser.{Parser}
+use Rattle.vp8_records.specs.declared.Parsed.{Parsed}
+use Rattle.vp8_records.specs.declared.Outcome.the-variants.{Accepted}
+use Rattle.vp8_records.specs.Layout.{joined}
+use Rattle.rfc6386.specs.Decoder.{bits, start}
+use Rattle.rfc6386.specs.Reads.{run, flag, when, lit}
+use Rattle.rfc6386.specs.Coded.{Coded, segments, deltas, quant, refresh, coefficients, inter, noInter, header}
+use Rattle.rfc6386.specs.Frame.{Snapshot, codedSizes, sum, sizes, snapshot}
+use Rattle.rfc6386.specs.Call.{headerOf, call}
+use Rattle.rfc6386.specs.Fills.{lengths, cuts, Fills}
+use Rattle.rfc6386.proofs.Trees.{Always, always-ret, always-bind, always-skip, lit-small}
+use Rattle.rfc6386.proofs.Counts.{Counted, key-header, inter-header}
+use Rattle.rfc6386.proofs.Accepts.{accepted}
+
+cuts-are : (ns f : List ℕ) → sum ns ≡ length f → (map length (cuts ns f) ≡ ns) × (joined (λ part. part) (cuts ns f) ≡ f)
+unfolding cuts joined sum
+cuts-are [] [] e = (refl, refl)
+cuts-are [] (x ∷ f) e = absurd (omega (arith, e))
+cuts-are (n ∷ ns) f e =
+    let r = cuts-are ns (drop n f) (omega (arith, e, length-drop n f)) in
+    let first : length (take n f) ≡ n = length-take-le n f (omega (arith, e)) in
+    (ap₂ {C = List ℕ} (λ x xs. x ∷ xs) first (r .0), ap {B = List ℕ} (λ xs. take n f ++ xs) (r .1) ∙ take-append-drop n f)
+
+sum-append : (xs ys : List ℕ) → sum (xs ++ ys) ≡ sum xs + sum ys
+unfolding sum
+sum-append [] ys = omega arith
+sum-append (x ∷ xs) ys = omega (arith, sum-append xs ys)
+
+length-coded : (k : ℕ) (area : List ℕ) (i : ℕ) → length (codedSizes k area i) ≡ k
+unfolding codedSizes
+length-coded zero area i = refl
+length-coded (suc k) area i = ap suc (length-coded k area (i + 3))
+
+-- the sizes of n partitions: there are n, and they fill what the first partition and the size bytes leave
+sizes-fill : (n : ℕ) (area : List ℕ) (first : ℕ) (ss : List ℕ) → 0 < n → sizes n area first ≡ some ss
+    → (length ss ≡ n) × (first + (3 * (n - 1) + sum ss) ≡ length area)
+unfolding sizes sum
+sizes-fill n area first ss h e = go (ltb (length area) from) refl (ltb (length area) (from + sum coded)) refl e
+  where
+    from : ℕ
+    from = first + 3 * (n - 1)
+
+    coded : List ℕ
+    coded = codedSizes (n - 1) area first
+
+    last : ℕ
+    last = length area - (from + sum coded)
+
+    go : (a : Bool) → ltb (length area) from ≡ a → (b : Bool) → ltb (length area) (from + sum coded) ≡ b
+        → elim a [ true ↦ none | false ↦ elim b [ true ↦ none | false ↦ some (coded ++ last ∷ []) ] ] ≡ some ss
+        → (length ss ≡ n) × (first + (3 * (n - 1) + sum ss) ≡ length area)
+    go true p b q e = absurd (let z : _≡_ {A = ℕ} 0 1 = cc in omega arith)
+    go false p true q e = absurd (let z : _≡_ {A = ℕ} 0 1 = cc in omega arith)
+    go false p false q e =
+        let is : coded ++ last ∷ [] ≡ ss = cc in
+        let fits : from + sum coded ≤ length area = ltb-false _ _ q in
+        let total : sum ss ≡ sum coded + sum (last ∷ []) = ap sum (sym is) ∙ sum-append coded (last ∷ []) in
+        let one : sum (last ∷ []) ≡ last = omega arith in
+        (ap length (sym is) ∙ length-append coded (last ∷ []) ∙ omega (arith, length-coded (n - 1) area first), omega (arith, total, one, fits))
+
+-- the header codes at most 8 partitions
+abbrev P : Coded → Type 0
+P c = c .log2parts < 4
+
+few-parts : (key : Bool) → Always P (header key)
+unfolding header
+few-parts key =
+    always-skip P (when key flag false) _ (λ cs. always-skip P (when key flag false) _ (λ ct. always-skip P segments _ (λ sg.
+    always-skip P flag _ (λ ft. always-skip P (lit 6) _ (λ ll. always-skip P (lit 3) _ (λ sh. always-skip P deltas _ (λ ds.
+    always-bind (λ x. x < 4) P (lit 2) _ (lit-small 2) (λ lp h. always-skip P quant _ (λ q. always-skip P (refresh key) _ (λ rf.
+    always-skip P coefficients _ (λ co. always-skip P flag _ (λ sk. always-skip P (when sk (lit 8) 0) _ (λ sp.
+    always-skip P (when (not key) inter noInter) _ (λ it. always-ret P _ h))))))))))))))
+
+-- n is 1, 2, 4 or 8
+few-partitions : (x : ℕ) → x < 4 → 2 ^ x ≤ 8
+few-partitions x h = pow-le-pow-right {n = 2} (omega arith) {i = x} {j = 3} (omega arith)
+
+-- the parts' lengths by the header of an accepted frame add up to the frame
+module _ (p : Parser) (f : List ℕ) (h : call p f .outcome ≡ Accepted) where
+  adds-up : sum (lengths (call p f .header)) ≡ length f
+  unfolding headerOf sum
+  adds-up =
+      let a = accepted p f h in
+      let n : ℕ = 2 ^ a .c .log2parts in
+      let area : List ℕ = drop (a .k .size) f in
+      let small : a .c .log2parts < 4 = rw (a .reading .coded) at (few-parts (a .k .key) (bits area) (start area)) in
+      let eight : n ≤ 8 = few-partitions _ small in
+      let some : 0 < n = pow-pos (a .c .log2parts) in
+      let r = sizes-fill n (drop (a .k .size) f) (a .k .first) (a .ss) some (a .reading .parts) in
+      let take8 : take n (take 8 (a .ss ++ replicate 8 0)) ≡ a .ss =
+      take-take n 8 _ eight ∙ take-at (a .ss) (replicate 8 0) n (r .0) in
+      ap (λ (x : Parsed). sum (lengths (x .header))) (a .answers)
+      ∙ rw take8 (omega (arith, r .1, length-drop (a .k .size) f, a .reading .fits))
+
+  pub accepted-fills : Fills (call p f .header) f
+  accepted-fills =
+      let c = cuts-are (lengths (call p f .header)) f adds-up in
+      record { each = c .0; whole = c .1 }
+
+  -- a key frame has 1,086 to 9,730 bools, an inter frame 1,153 to 10,123
+  bools-are : (b : Bool) → call p f .header .«key_frame» ≡ b → (lo hi : ℕ) → Counted (header b) lo hi
+      → (lo ≤ call p f .header .bools) × (call p f .header .bools ≤ hi)
+  unfolding headerOf snapshot start
+  bools-are b e lo hi q =
+      let a = accepted p f h in
+      let key : a .k .key ≡ b = sym (ap (λ (x : Parsed). x .header .«key_frame») (a .answers)) ∙ e in
+      let area : List ℕ = drop (a .k .size) f in
+      let n : call p f .header .bools ≡ run (header b) (bits area) (start area) .then .n =
+      ap (λ (x : Parsed). x .header .bools) (a .answers) ∙ sym (ap (λ (s : Snapshot). s .bools) (a .reading .seen))
+      ∙ ap (λ (k : Bool). run (header k) (bits area) (start area) .then .n) key in
+      (omega (arith, n, q .low (bits area) (start area)), omega (arith, n, q .high (bits area) (start area)))
+
+  pub key-bools : call p f .header .«key_frame» ≡ true → (1086 ≤ call p f .header .bools) × (call p f .header .bools ≤ 9730)
+  key-bools e = bools-are true e 1086 9730 key-header
+
+  pub inter-bools : call p f .header .«key_frame» ≡ false → (1153 ≤ call p f .header .bools) × (call p f .header .bools ≤ 10123)
+  inter-bools e = bools-are false e 1153 10123 inter-header
