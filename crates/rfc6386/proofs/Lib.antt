@@ -1,4 +1,5 @@
 -- Theorems about the definition, and the laws that the proofs above cite.
+pub mod Runs
 pub mod Trees
 pub mod Range
 pub mod Counts

@@ -1,0 +1,2 @@
+-- Laws that the sub-headers' proofs share.
+pub mod InPlace
