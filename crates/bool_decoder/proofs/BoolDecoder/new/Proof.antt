@@ -1,55 +1,67 @@
+-- The loop's invariant: the bytes passed, as one number, and the rest of the area make the area's number. Assumes nothing.
+use mathlib.Core.Path.{_≡_}
+use Prim.Native.Nat.{_+_, _-_, _*_, _^_, _≤_, _<_}
+use native.Mathlib.Omega.{arith}
+use native.Mathlib.Nat.{pow-le-pow-right}
+use lib.Dec.{lit<}
+use borrow.Author.Needs.{needs}
+use Rattle.rfc6386.specs.Decoder.{number, bits}
+use Rattle.bool_decoder.specs.Window.{rest}
+use Rattle.bool_decoder.proofs.Stream.{rest-zero, more, more-lt}
+use Rattle.bool_decoder.proofs.Over.{fresh}
 use Rattle.bool_decoder.proofs.BoolDecoder.new.Statement.{statement}
 use Rattle.bool_decoder.proofs.BoolDecoder.new.Tie as tie
-use Rattle.bool_decoder.proofs.BoolDecoder.new.Reads as reads
-use Rattle.bool_decoder.proofs.BoolDecoder.new.Lts as lts
-use Rattle.bitstream_utils.proofs.byte_at.Reads as byte-at-reads
-use Rattle.bool_decoder.proofs.limit_of.Reads as limit-of-reads
 
 abbrev Inv-loop : tie.InvT-loop
-Inv-loop area value₀ at₀ value at = ?
+Inv-loop area value₀ at₀ value at =
+    (at ≤ 8) × (value < 256 ^ at) × (value * 2 ^ bits area + rest area at ≡ number area * 256 ^ at)
 
 abbrev μ-loop : tie.MeasureT-loop
-μ-loop area value₀ at₀ value at = ?
+μ-loop area value₀ at₀ value at = 8 - at
 
--- src/lib.rt:421:9
 loop-holds : tie.Need-loop-holds Inv-loop μ-loop
-loop-holds c = ?
+loop-holds c = (omega arith, omega arith, omega (arith, rest-zero (c .before .args .area .now)))
 
--- src/lib.rt:422:21
 mul-value : tie.Need-mul-value Inv-loop μ-loop
-mul-value c = ?
+mul-value c =
+    record { fits = omega (arith, pow-le-pow-right {n = 256} (lit< tt) {i = c .before .loop .at} {j = 7} (omega arith)) }
 
--- src/lib.rt:422:35
 byte-at-requires : tie.Need-byte-at-requires Inv-loop μ-loop
-byte-at-requires c κs = ?
+byte-at-requires c κs = search needs
 
--- src/lib.rt:422:35
 cast-value : tie.Need-cast-value Inv-loop μ-loop
-cast-value c = ?
+cast-value c = search needs
 
--- src/lib.rt:422:21
 add-value : tie.Need-add-value Inv-loop μ-loop
-add-value c = ?
+add-value c =
+    let p = c .before .before .loop in
+    let small = more-lt (p .value) (c .byte-at .result) (p .at) (p .inv .1) (omega (arith, c .byte-at .ok)) in
+    record { fits = omega (arith, small, pow-le-pow-right {n = 256} (lit< tt) {i = p .at + 1} {j = 8} (omega arith)) }
 
--- src/lib.rt:423:13
 add-at : tie.Need-add-at Inv-loop μ-loop
-add-at c = ?
+add-at c = omega arith
 
--- src/lib.rt:421:9
 loop-less : tie.Need-loop-less Inv-loop μ-loop
-loop-less c = ?
+loop-less c = omega arith
 
--- src/lib.rt:421:9
 loop-again : tie.Need-loop-again Inv-loop μ-loop
-loop-again c = ?
+loop-again c =
+    let a = c .before .before .before .before .args .area .now in
+    let p = c .before .before .loop in (
+      omega arith,
+      more-lt (p .value) (c .byte-at .result) (p .at) (p .inv .1) (omega (arith, c .byte-at .ok)),
+      rw (c .byte-at .ensures) (more a (p .value) (p .at) (p .inv .2)),
+    )
 
--- src/lib.rt:427:20
 limit-of-requires : tie.Need-limit-of-requires Inv-loop μ-loop
-limit-of-requires c κs = ?
+limit-of-requires c κs = search needs
 
--- src/lib.rt:416:5
 returns : tie.Need-returns Inv-loop μ-loop
-returns c = ?
+returns c =
+    let a = c .before .before .before .before .args .area .now in
+    let p = c .before .before .loop in
+    let bytes = c .before .before .before .shared-slice-known .given in
+    rw (c .limit-of .ensures) (fresh a (p .value) (p .at) (omega arith) (p .inv .1) (p .inv .2) (λ i. bytes i .fits))
 
 pub new-spec : {M : Type 1} → statement M
 new-spec =

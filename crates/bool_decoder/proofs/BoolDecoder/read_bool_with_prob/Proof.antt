@@ -1,24 +1,20 @@
+-- Where nothing is refused the inner read goes ahead. Assumes nothing.
+use mathlib.Core.Path.{sym, _∙_}
+use Rattle.bool_decoder.proofs.Limits.{allowed}
 use borrow.Author.Needs.{needs}
 use Rattle.bool_decoder.proofs.BoolDecoder.read_bool_with_prob.Statement.{statement}
 use Rattle.bool_decoder.proofs.BoolDecoder.read_bool_with_prob.Tie as tie
-use Rattle.bool_decoder.proofs.BoolDecoder.read_bool_with_prob.Reads as reads
-use Rattle.bool_decoder.proofs.BoolDecoder.read_bool_with_prob.Lts as lts
-use Rattle.bool_decoder.proofs.BoolDecoder.read_bit.Reads as read-bit-reads
-use Rattle.bool_decoder.proofs.refusal.Reads as refusal-reads
 
--- src/lib.rt:585:13
 refusal-requires : tie.Need-refusal-requires
 refusal-requires c κs = search needs
 
--- src/lib.rt:587:13
 returns : tie.Need-returns
 returns c = search needs
 
--- src/lib.rt:589:26
 read-bit-requires : tie.Need-read-bit-requires
-read-bit-requires c κs = ?
+read-bit-requires c κs =
+    allowed 1 1 (c .before .before .before .pre) (sym (c .before .refusal .ensures) ∙ c .if1 .left) .1
 
--- src/lib.rt:581:5
 returns-2 : tie.Need-returns-2
 returns-2 c = search needs
 

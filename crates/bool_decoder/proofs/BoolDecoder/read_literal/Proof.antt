@@ -1,51 +1,53 @@
+-- The loop is Literal's; the value fits since it is below 2 ^ 31. Assumes nothing.
+use Prim.Native.Nat.{_-_}
+use native.Mathlib.Omega.{arith}
+use lib.Pow.{pow-mono}
+use borrow.Author.Needs.{needs}
+use Rattle.bool_decoder.proofs.Literal.{bit-le, Reading, begin, room, turn, end}
 use Rattle.bool_decoder.proofs.BoolDecoder.read_literal.Statement.{statement}
 use Rattle.bool_decoder.proofs.BoolDecoder.read_literal.Tie as tie
-use Rattle.bool_decoder.proofs.BoolDecoder.read_literal.Reads as reads
-use Rattle.bool_decoder.proofs.BoolDecoder.read_literal.Lts as lts
-use Rattle.bool_decoder.proofs.BoolDecoder.read_flag.Reads as read-flag-reads
-use Rattle.bool_decoder.proofs.digit.Reads as digit-reads
 
 abbrev Inv-loop : tie.InvT-loop
-Inv-loop area nbits value₀ dec₀ counter₀ value dec counter = ?
+Inv-loop area nbits value₀ dec₀ counter₀ value dec counter = Reading area nbits dec₀ value dec counter
 
 abbrev μ-loop : tie.MeasureT-loop
-μ-loop area nbits value₀ dec₀ counter₀ value dec counter = ?
+μ-loop area nbits value₀ dec₀ counter₀ value dec counter = nbits - counter
 
--- src/lib.rt:535:9
 loop-holds : tie.Need-loop-holds Inv-loop μ-loop
-loop-holds c = ?
+loop-holds c =
+    begin (c .before .args .area .now) (c .before .args .nbits) (c .before .args .self) (c .before .pre .1 .over)
 
--- src/lib.rt:536:17
 read-flag-requires : tie.Need-read-flag-requires Inv-loop μ-loop
-read-flag-requires c κs = ?
+read-flag-requires c κs = room (c .before .loop .inv) (c .loop-test .taken) (c .before .before .before .pre .1)
 
--- src/lib.rt:537:21
 mul-value : tie.Need-mul-value Inv-loop μ-loop
-mul-value c = ?
+mul-value c =
+    let p = c .before .before .loop in
+    let small = pow-mono {i = p .counter} {j = 30} (omega (arith, c .before .before .before .before .pre .0)) in
+    record { fits = omega (arith, p .inv .small, small) }
 
--- src/lib.rt:537:33
 digit-requires : tie.Need-digit-requires Inv-loop μ-loop
-digit-requires c κs = ?
+digit-requires c κs = search needs
 
--- src/lib.rt:537:21
 add-value : tie.Need-add-value Inv-loop μ-loop
-add-value c = ?
+add-value c =
+    let p = c .before .before .before .loop in
+    let small = pow-mono {i = p .counter} {j = 30} (omega (arith, c .before .before .before .before .before .pre .0)) in
+    record { fits = omega (arith, p .inv .small, c .digit .ensures, bit-le (c .before .read-flag .result .bit), small) }
 
--- src/lib.rt:535:13
 add-counter : tie.Need-add-counter Inv-loop μ-loop
-add-counter c = ?
+add-counter c = omega arith
 
--- src/lib.rt:535:9
 loop-less : tie.Need-loop-less Inv-loop μ-loop
-loop-less c = ?
+loop-less c = omega arith
 
--- src/lib.rt:535:9
 loop-again : tie.Need-loop-again Inv-loop μ-loop
-loop-again c = ?
+loop-again c =
+    let d = c .before .digit in
+    turn (c .before .before .before .before .loop .inv) (omega arith) (c .before .before .read-flag .ensures) (d .result) (d .ensures)
 
--- src/lib.rt:529:5
 returns : tie.Need-returns Inv-loop μ-loop
-returns c = ?
+returns c = end (c .before .loop .inv) (omega arith)
 
 pub read-literal-spec : {M : Type 1} → statement M
 read-literal-spec =
