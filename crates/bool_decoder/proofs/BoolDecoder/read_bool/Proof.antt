@@ -1,0 +1,25 @@
+-- Where nothing is refused the inner read goes ahead. Assumes nothing.
+use mathlib.Core.Path.{sym, _∙_}
+use Rattle.bool_decoder.proofs.Limits.{allowed}
+use Rattle.rfc6386.specs.Reads.{flag}
+use borrow.Author.Needs.{needs}
+use Rattle.bool_decoder.proofs.BoolDecoder.read_bool.Statement.{statement}
+use Rattle.bool_decoder.proofs.BoolDecoder.read_bool.Tie as tie
+
+refusal-requires : tie.Need-refusal-requires
+refusal-requires c κs = search needs
+
+returns : tie.Need-returns
+returns c = search needs
+
+read-flag-requires : tie.Need-read-flag-requires
+read-flag-requires c κs =
+    allowed 1 1 (c .before .before .before .pre) (sym (c .before .refusal .ensures) ∙ c .if1 .left) .1
+
+returns-2 : tie.Need-returns-2
+unfolding flag
+returns-2 c =
+    record { free = sym (c .before .before .refusal .ensures) ∙ c .before .if1 .left; ran = c .read-flag .ensures }
+
+pub read-bool-spec : {M : Type 1} → statement M
+read-bool-spec = tie.close (tie.spec refusal-requires returns read-flag-requires returns-2)

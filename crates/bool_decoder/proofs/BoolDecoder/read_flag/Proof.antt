@@ -1,0 +1,105 @@
+-- As read_bit, where the shift is 1, or 0 at a split of 128. Assumes nothing.
+use mathlib.Core.Path.{refl}
+use native.Mathlib.Omega.{arith}
+use lib.Dec.{lit≤}
+use Rattle.rfc6386.specs.Reads.{flag}
+use Rattle.bool_decoder.proofs.Over.{chosen-one, chosen-zero, holds-v, doubled, as-it-is}
+use borrow.Author.Needs.{needs}
+use Rattle.bool_decoder.proofs.BoolDecoder.read_flag.Statement.{statement}
+use Rattle.bool_decoder.proofs.BoolDecoder.read_flag.Tie as tie
+
+half-of-requires : tie.Need-half-of-requires
+half-of-requires c κs = search needs
+
+cast-big : tie.Need-cast-big
+cast-big c = search needs
+
+fill-requires : tie.Need-fill-requires
+fill-requires c κs =
+    let start = c .before .before .before .before .before in
+    let s = c .before .before .before .half-of .ensures in (
+      holds-v (start .pre) (chosen-one (start .pre .over) 128 (s .0) (omega (arith, s .3)) (c .before .if1 .taken)),
+      omega (arith, start .pre .over .few, start .pre .over .count),
+      lit≤ tt,
+    )
+
+sub-t11 : tie.Need-sub-t11
+sub-t11 c = search needs
+
+mul-t12 : tie.Need-mul-t12
+mul-t12 c = search needs
+
+limit-of-requires : tie.Need-limit-of-requires
+limit-of-requires c κs = search needs
+
+add-t14 : tie.Need-add-t14
+add-t14 c = search needs
+
+add-t15 : tie.Need-add-t15
+add-t15 c = search needs
+
+add-t18 : tie.Need-add-t18
+add-t18 c = search needs
+
+returns : tie.Need-returns
+unfolding flag
+returns c =
+    let start = c .before .before .before .before .before .before in
+    let s = c .before .before .before .before .half-of .ensures in
+    let chosen = chosen-zero (start .pre .over) 128 (s .0) (omega (arith, s .3)) (c .before .before .if1 .left) in
+    as-it-is (start .pre) chosen (c .before .if2 .taken) (start .pre .over .limit)
+
+fill-requires-2 : tie.Need-fill-requires-2
+fill-requires-2 c κs = search needs
+
+mul-t20 : tie.Need-mul-t20
+mul-t20 c = search needs
+
+limit-of-requires-2 : tie.Need-limit-of-requires-2
+limit-of-requires-2 c κs = search needs
+
+add-t22 : tie.Need-add-t22
+add-t22 c = search needs
+
+add-t23 : tie.Need-add-t23
+add-t23 c = search needs
+
+returns-2 : tie.Need-returns-2
+unfolding flag
+returns-2 c =
+    let start = c .before .before .before .before .before .before .before .before .before .before in
+    let s = c .before .before .before .before .before .before .before .before .half-of .ensures in
+    let chosen = chosen-one (start .pre .over) 128 (s .0) (omega (arith, s .3)) (c .before .before .before .before .before .before .if1 .taken) in
+    doubled (start .pre) chosen 1 (omega (arith, s .3)) (omega (arith, s .4)) (lit≤ tt) refl (c .before .before .limit-of .ensures)
+    (c .before .before .before .before .fill .ensures)
+
+returns-3 : tie.Need-returns-3
+unfolding flag
+returns-3 c =
+    let start = c .before .before .before .before .before .before .before .before .before in
+    let s = c .before .before .before .before .before .before .before .half-of .ensures in
+    let chosen = chosen-zero (start .pre .over) 128 (s .0) (omega (arith, s .3)) (c .before .before .before .before .before .if1 .left) in
+    doubled (start .pre) chosen 1 (omega (arith, s .1)) (omega (arith, c .before .before .before .before .if2 .left)) (lit≤ tt) refl
+    (c .before .before .limit-of2 .ensures) (c .before .before .before .fill2 .ensures)
+
+pub read-flag-spec : {M : Type 1} → statement M
+read-flag-spec =
+    tie.close
+    (tie.spec
+    half-of-requires
+    cast-big
+    fill-requires
+    sub-t11
+    mul-t12
+    limit-of-requires
+    add-t14
+    add-t15
+    add-t18
+    returns
+    fill-requires-2
+    mul-t20
+    limit-of-requires-2
+    add-t22
+    add-t23
+    returns-2
+    returns-3)

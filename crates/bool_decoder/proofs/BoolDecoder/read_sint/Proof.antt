@@ -1,0 +1,25 @@
+-- Where nothing is refused the inner read goes ahead. Assumes nothing.
+use mathlib.Core.Path.{sym, _∙_}
+use Rattle.bool_decoder.proofs.Limits.{allowed}
+use Prim.Native.Nat.{_+_}
+use borrow.Author.Needs.{needs}
+use Rattle.bool_decoder.proofs.BoolDecoder.read_sint.Statement.{statement}
+use Rattle.bool_decoder.proofs.BoolDecoder.read_sint.Tie as tie
+
+refusal-requires : tie.Need-refusal-requires
+refusal-requires c κs = search needs
+
+returns : tie.Need-returns
+returns c = search needs
+
+read-signed-requires : tie.Need-read-signed-requires
+read-signed-requires c κs =
+    let s = c .before .before .before in
+    let n = s .args .nbits in
+    allowed n (n + 1) (s .pre) (sym (c .before .refusal .ensures) ∙ c .if1 .left)
+
+returns-2 : tie.Need-returns-2
+returns-2 c = search needs
+
+pub read-sint-spec : {M : Type 1} → statement M
+read-sint-spec = tie.close (tie.spec refusal-requires returns read-signed-requires returns-2)

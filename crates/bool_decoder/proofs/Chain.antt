@@ -1,0 +1,53 @@
+-- How reads are put together: a law for a step, one for the end, one for a wider bound, one for the room after a read, two for a flag.
+-- Each is one step of `run`. Assumes nothing.
+use Prim.Native.Nat.{ℕ, _+_, _≤_}
+use native.Mathlib.Omega.{arith}
+use mathlib.Core.Path.{_≡_, refl, ap, _∙_}
+use mathlib.Core.Bool.{Bool, true, false}
+use mathlib.Core.List.{List}
+use Rattle.rfc6386.specs.Decoder.{State, Out, bits, readBool}
+use Rattle.rfc6386.specs.Reads.{Rd, ret, ask, _>>=_, run, when}
+use Rattle.bool_decoder.specs.Window.{stateOf, Over}
+use Rattle.bool_decoder.specs.Model.{Good, Ran}
+use Rattle.bool_decoder.specs.declared.BoolDecoder.{BoolDecoder}
+
+pub run-bind : {A B : Type 0} (m : Rd A) (f : A → Rd B) (l : ℕ) (s : State) → run (m >>= f) l s ≡ run (f (run m l s .got)) l (run m l s .then)
+unfolding run _>>=_
+run-bind (ret a) f l s = refl
+run-bind (ask p k) f l s = run-bind (k (readBool l p s .got)) f l (readBool l p s .then)
+
+module _ {A B : Type 0} {area : List ℕ} where
+  -- first m, then what f makes of its value
+  pub then : {m : Rd A} (f : A → Rd B) {d d₁ d₂ : BoolDecoder} {a : A} {b : B} {j k : ℕ} → Ran m area d a d₁ j → Ran (f a) area d₁ b d₂ k → Ran (m >>= f) area d b d₂ (j + k)
+  then {m} f {d} p q = record {
+    is =
+        run-bind m f (bits area) (stateOf area d) ∙ ap (λ (o : Out A). run (f (o .got)) (bits area) (o .then)) (p .is)
+        ∙ q .is;
+    over = q .over;
+    most = omega (arith, p .most, q .most);
+  }
+
+module _ {A : Type 0} {area : List ℕ} where
+  -- nothing is read
+  pub done : {d : BoolDecoder} {a : A} → Over area d → Ran (ret a) area d a d 0
+  unfolding run
+  done o = record { is = refl; over = o; most = omega arith }
+
+  pub upto : {m : Rd A} {d d₁ : BoolDecoder} {a : A} {j k : ℕ} → j ≤ k → Ran m area d a d₁ j → Ran m area d a d₁ k
+  upto h p = record { is = p .is; over = p .over; most = omega (arith, p .most) }
+
+  -- after m there is room for what is left
+  pub after : {m : Rd A} {d d₁ : BoolDecoder} {a : A} {j : ℕ} (k : ℕ) → Ran m area d a d₁ j → Good area d (j + k) → Good area d₁ k
+  after k p g = record { over = p .over; room = omega (arith, p .most, g .room) }
+
+  -- a read under a flag that is set, and one under a flag that isn't
+  pub on : {m : Rd A} {b : Bool} (x : A) {d d₁ : BoolDecoder} {a : A} {k : ℕ} → b ≡ true → Ran m area d a d₁ k → Ran (when b m x) area d a d₁ k
+  unfolding when
+  on x e p = rw e p
+
+  pub off : (m : Rd A) {b : Bool} {x : A} {d : BoolDecoder} → b ≡ false → Over area d → Ran (when b m x) area d x d 0
+  unfolding when
+  off m e o = rw e (done o)
+
+pub fewer : {area : List ℕ} {d : BoolDecoder} {j k : ℕ} → j ≤ k → Good area d k → Good area d j
+fewer h g = record { over = g .over; room = omega (arith, g .room) }

@@ -1,0 +1,12 @@
+-- Chain and Each are what callers build their proofs from; Sequence is the promise; Same says that no contract leaves a choice.
+pub mod Laws
+pub mod Stream
+pub mod Normal
+pub mod Over
+pub mod Chain
+pub mod Each
+pub mod Literal
+pub mod Limits
+pub mod Same
+pub mod Sequence
+mod Table

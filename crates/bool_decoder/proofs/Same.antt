@@ -1,0 +1,119 @@
+-- Any two answers that a contract admits are equal. A decoder over an area is a function of its state, since the window is what is left of
+-- V when the bytes to come are taken off; so two runs of one tree leave the same decoder. Assumes nothing.
+use mathlib.Core.Path.{_≡_, sym, ap, _∙_}
+use mathlib.Core.Bool.{Bool}
+use mathlib.Core.List.{List}
+use lib.IntN.{ℤ}
+use Prim.Native.Nat.{ℕ, _+_, _-_, _*_, _/_, _%_, _^_}
+use native.Mathlib.Nat.{mul-div-cancel, add-sub-cancel}
+use native.Mathlib.Omega.{arith}
+use lib.Pow.{pow-pos}
+use Rattle.rfc6386.specs.Decoder.{State, Out, bits, position}
+use Rattle.rfc6386.specs.Reads.{Rd}
+use Rattle.bool_decoder.specs.Window.{rest, vOf, stateOf, limitOf, Over}
+use Rattle.bool_decoder.specs.Model.{Ran, Lit, Sgn, Fresh, Seen}
+use Rattle.bool_decoder.specs.Answer.{refusal, Allows, Refuses, BoolMeets, UintMeets, SintMeets}
+use Rattle.bool_decoder.specs.declared.BoolDecoder.{BoolDecoder}
+use Rattle.bool_decoder.specs.declared.BoolDecoderState.{BoolDecoderState}
+use Rattle.bool_decoder.specs.declared.Bit.{Bit}
+use Rattle.bool_decoder.specs.declared.Uint.{Uint}
+use Rattle.bool_decoder.specs.declared.Sint.{Sint}
+use Rattle.bool_decoder.specs.declared.BoolAnswer.{BoolAnswer}
+use Rattle.bool_decoder.specs.declared.BoolAnswer.the-variants as B
+use Rattle.bool_decoder.specs.declared.UintAnswer.{UintAnswer}
+use Rattle.bool_decoder.specs.declared.UintAnswer.the-variants as U
+use Rattle.bool_decoder.specs.declared.SintAnswer.{SintAnswer}
+use Rattle.bool_decoder.specs.declared.SintAnswer.the-variants as S
+
+-- the window that stands for a state
+abbrev windowOf : List ℕ → State → ℕ
+windowOf area s = (s .v * 2 ^ 56 - rest area (s .c / 8 + 8) * 2 ^ (s .c % 8)) / 2 ^ bits area
+
+abbrev decoderOf : List ℕ → State → BoolDecoder
+decoderOf area s =
+    record { range = s .r; limit = limitOf (windowOf area s); value = windowOf area s; doublings = s .c; bools = s .n }
+
+window-is : (area : List ℕ) (d : BoolDecoder) → Over area d → windowOf area (stateOf area d) ≡ d .value
+window-is area d o =
+    let x : ℕ = rest area (d .doublings / 8 + 8) * 2 ^ (d .doublings % 8) in
+    ap (λ (k : ℕ). (k - x) / 2 ^ bits area) (o .holds .exact)
+    ∙ ap (λ (k : ℕ). k / 2 ^ bits area) (add-sub-cancel (d .value * 2 ^ bits area) x)
+    ∙ mul-div-cancel (d .value) (pow-pos (bits area))
+
+over-is : (area : List ℕ) (d : BoolDecoder) → Over area d → d ≡ decoderOf area (stateOf area d)
+over-is area d o = λ i. record {
+  range = d .range;
+  limit = (o .limit ∙ ap limitOf (sym (window-is area d o))) i;
+  value = sym (window-is area d o) i;
+  doublings = d .doublings;
+  bools = d .bools;
+}
+
+pub same : {area : List ℕ} {d e : BoolDecoder} → Over area d → Over area e → stateOf area d ≡ stateOf area e → d ≡ e
+same {area} {d} {e} o p s = over-is area d o ∙ ap (decoderOf area) s ∙ sym (over-is area e p)
+
+-- new
+pub same-fresh : {area : List ℕ} {d e : BoolDecoder} → Fresh area d → Fresh area e → d ≡ e
+same-fresh p q = same (p .over) (q .over) (p .state ∙ sym (q .state))
+
+-- every reader, whatever its tree
+module _ {A : Type 0} {m : Rd A} {area : List ℕ} {d : BoolDecoder} {a b : A} {e f : BoolDecoder} {j k : ℕ} where
+  pub same-value : Ran m area d a e j → Ran m area d b f k → a ≡ b
+  same-value p q = ap (λ (o : Out A). o .got) (sym (p .is) ∙ q .is)
+
+  pub same-decoder : Ran m area d a e j → Ran m area d b f k → e ≡ f
+  same-decoder p q = same (p .over) (q .over) (ap (λ (o : Out A). o .then) (sym (p .is) ∙ q .is))
+
+-- read_bit and read_flag
+pub same-bit : {m : Rd Bool} {area : List ℕ} {d : BoolDecoder} {r q : Bit} → Ran m area d (r .bit) (r .dec) 1 → Ran m area d (q .bit) (q .dec) 1 → r ≡ q
+same-bit p s = λ i. record { bit = same-value p s i; dec = same-decoder p s i }
+
+-- read_literal and read_signed
+same-uint : {m : Rd ℕ} {area : List ℕ} {d : BoolDecoder} {r q : Uint} {k : ℕ} → Ran m area d (r .value) (r .dec) k → Ran m area d (q .value) (q .dec) k → r ≡ q
+same-uint p s = λ i. record { value = same-value p s i; dec = same-decoder p s i }
+
+same-sint : {m : Rd ℤ} {area : List ℕ} {d : BoolDecoder} {r q : Sint} {k : ℕ} → Ran m area d (r .value) (r .dec) k → Ran m area d (q .value) (q .dec) k → r ≡ q
+same-sint p s = λ i. record { value = same-value p s i; dec = same-decoder p s i }
+
+pub same-literal : {area : List ℕ} {w : ℕ} {d : BoolDecoder} {r q : Uint} → Lit area w d (r .value) (r .dec) → Lit area w d (q .value) (q .dec) → r ≡ q
+same-literal p s = same-uint (p .ran) (s .ran)
+
+pub same-signed : {area : List ℕ} {w : ℕ} {d : BoolDecoder} {r q : Sint} → Sgn area w d (r .value) (r .dec) → Sgn area w d (q .value) (q .dec) → r ≡ q
+same-signed p s = same-sint (p .ran) (s .ran)
+
+-- pos
+pub same-position : (area : List ℕ) (d : BoolDecoder) {r q : ℕ} → r ≡ position (bits area) (stateOf area d) → q ≡ position (bits area) (stateOf area d) → r ≡ q
+same-position area d p s = p ∙ sym s
+
+-- snapshot
+pub same-seen : {area : List ℕ} {d : BoolDecoder} {r q : BoolDecoderState} → Seen area d r → Seen area d q → r ≡ q
+same-seen p s = λ i. record {
+  range = (p .range ∙ sym (s .range)) i;
+  value = (p .value ∙ sym (s .value)) i;
+  count = (p .count ∙ sym (s .count)) i;
+}
+
+-- nothing is both refused and read
+torn : {A X : Type 0} {m : Rd A} {area : List ℕ} {d : BoolDecoder} {w k : ℕ} {a : A} {e : BoolDecoder} {n : ℕ} → Allows m area d w k a e → Refuses area d w k n → X
+torn p q = absurd (omega (arith, p .free, q .is, q .some))
+
+-- read_bool and read_bool_with_prob
+pub same-bool : (area : List ℕ) (d : BoolDecoder) (p : ℕ) (r q : BoolAnswer) → BoolMeets area d p r → BoolMeets area d p q → r ≡ q
+same-bool area d p (B.Read r) (B.Read q) x y = ap B.Read (same-bit (x .ran) (y .ran))
+same-bool area d p (B.Read r) (B.Refused n) x y = torn x y
+same-bool area d p (B.Refused n) (B.Read q) x y = torn y x
+same-bool area d p (B.Refused n) (B.Refused k) x y = ap B.Refused (x .is ∙ sym (y .is))
+
+-- read_uint
+pub same-unsigned : (area : List ℕ) (d : BoolDecoder) (w : ℕ) (r q : UintAnswer) → UintMeets area d w r → UintMeets area d w q → r ≡ q
+same-unsigned area d w (U.Read r) (U.Read q) x y = ap U.Read (same-uint (x .ran) (y .ran))
+same-unsigned area d w (U.Read r) (U.Refused n) x y = torn x y
+same-unsigned area d w (U.Refused n) (U.Read q) x y = torn y x
+same-unsigned area d w (U.Refused n) (U.Refused k) x y = ap U.Refused (x .is ∙ sym (y .is))
+
+-- read_sint
+pub same-int : (area : List ℕ) (d : BoolDecoder) (w : ℕ) (r q : SintAnswer) → SintMeets area d w r → SintMeets area d w q → r ≡ q
+same-int area d w (S.Read r) (S.Read q) x y = ap S.Read (same-sint (x .ran) (y .ran))
+same-int area d w (S.Read r) (S.Refused n) x y = torn x y
+same-int area d w (S.Refused n) (S.Read q) x y = torn y x
+same-int area d w (S.Refused n) (S.Refused k) x y = ap S.Refused (x .is ∙ sym (y .is))

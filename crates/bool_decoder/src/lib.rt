@@ -1,0 +1,624 @@
+// The boolean decoder of bool_decoder.rs: bools, literals, signed literals, position and snapshot.
+// It goes by value, and the area is passed along with it.
+// Inner reads ask for a decoder over the area with room for the bools; the public ones test the limits first, and refuse.
+use bitstream_utils::byte_at;
+ghost use mathlib.Core.Path.{_≡_};
+ghost use Prim.Native.Nat.{_+_, _-_, _*_, _%_, _^_, _<_, _≤_};
+ghost use lib.ListN.{length};
+ghost use Rattle.rfc6386.specs.Decoder.{bits, split, refusalOf, position};
+ghost use Rattle.rfc6386.specs.Reads.{bool, flag, bit, signed};
+ghost use Rattle.bool_decoder.specs.Window.{Held, vOf, stateOf, limitOf, Over};
+ghost use Rattle.bool_decoder.specs.Model.{Good, Ran, Lit, Sgn, Fresh, Seen};
+ghost use Rattle.bool_decoder.specs.Answer.{BoolMeets, UintMeets, SintMeets};
+
+// The doublings that bring a range to 128 or more. The entry at 0 is never asked.
+const NORM: [u8; 256] = [
+    0,
+    7,
+    6,
+    6,
+    5,
+    5,
+    5,
+    5,
+    4,
+    4,
+    4,
+    4,
+    4,
+    4,
+    4,
+    4,
+    3,
+    3,
+    3,
+    3,
+    3,
+    3,
+    3,
+    3,
+    3,
+    3,
+    3,
+    3,
+    3,
+    3,
+    3,
+    3,
+    2,
+    2,
+    2,
+    2,
+    2,
+    2,
+    2,
+    2,
+    2,
+    2,
+    2,
+    2,
+    2,
+    2,
+    2,
+    2,
+    2,
+    2,
+    2,
+    2,
+    2,
+    2,
+    2,
+    2,
+    2,
+    2,
+    2,
+    2,
+    2,
+    2,
+    2,
+    2,
+    1,
+    1,
+    1,
+    1,
+    1,
+    1,
+    1,
+    1,
+    1,
+    1,
+    1,
+    1,
+    1,
+    1,
+    1,
+    1,
+    1,
+    1,
+    1,
+    1,
+    1,
+    1,
+    1,
+    1,
+    1,
+    1,
+    1,
+    1,
+    1,
+    1,
+    1,
+    1,
+    1,
+    1,
+    1,
+    1,
+    1,
+    1,
+    1,
+    1,
+    1,
+    1,
+    1,
+    1,
+    1,
+    1,
+    1,
+    1,
+    1,
+    1,
+    1,
+    1,
+    1,
+    1,
+    1,
+    1,
+    1,
+    1,
+    1,
+    1,
+    1,
+    1,
+    1,
+    1,
+    0,
+    0,
+    0,
+    0,
+    0,
+    0,
+    0,
+    0,
+    0,
+    0,
+    0,
+    0,
+    0,
+    0,
+    0,
+    0,
+    0,
+    0,
+    0,
+    0,
+    0,
+    0,
+    0,
+    0,
+    0,
+    0,
+    0,
+    0,
+    0,
+    0,
+    0,
+    0,
+    0,
+    0,
+    0,
+    0,
+    0,
+    0,
+    0,
+    0,
+    0,
+    0,
+    0,
+    0,
+    0,
+    0,
+    0,
+    0,
+    0,
+    0,
+    0,
+    0,
+    0,
+    0,
+    0,
+    0,
+    0,
+    0,
+    0,
+    0,
+    0,
+    0,
+    0,
+    0,
+    0,
+    0,
+    0,
+    0,
+    0,
+    0,
+    0,
+    0,
+    0,
+    0,
+    0,
+    0,
+    0,
+    0,
+    0,
+    0,
+    0,
+    0,
+    0,
+    0,
+    0,
+    0,
+    0,
+    0,
+    0,
+    0,
+    0,
+    0,
+    0,
+    0,
+    0,
+    0,
+    0,
+    0,
+    0,
+    0,
+    0,
+    0,
+    0,
+    0,
+    0,
+    0,
+    0,
+    0,
+    0,
+    0,
+    0,
+    0,
+    0,
+    0,
+    0,
+    0,
+    0,
+    0,
+    0,
+    0,
+    0,
+    0,
+    0,
+    0,
+    0,
+    0,
+    0,
+    0,
+];
+
+// The top 8 bits of `value` are the whole part of V. `limit` is a function of `value`, kept so that most bools need no window.
+pub struct BoolDecoder {
+    pub range: u32,
+    pub limit: u32,
+    pub value: u64,
+    pub doublings: u32,
+    pub bools: u32,
+}
+
+// What was read, and the decoder after it.
+pub struct Bit {
+    pub bit: bool,
+    pub dec: BoolDecoder,
+}
+
+pub struct Uint {
+    pub value: u32,
+    pub dec: BoolDecoder,
+}
+
+pub struct Sint {
+    pub value: i32,
+    pub dec: BoolDecoder,
+}
+
+// A capture of the decoder's state, for the next decoding step.
+pub struct BoolDecoderState {
+    pub range: u8,
+    pub value: u8,
+    pub count: u8,
+}
+
+// What the bare decoder answers: what was read, or the number of its refusal.
+pub enum BoolAnswer {
+    Read(Bit),
+    Refused(u32),
+}
+
+pub enum UintAnswer {
+    Read(Uint),
+    Refused(u32),
+}
+
+pub enum SintAnswer {
+    Read(Sint),
+    Refused(u32),
+}
+
+// Tested for 128 first, since a constant array is made anew wherever it is named.
+fn norm(range: u32) -> u32
+    requires { ⌜ (0 < range) × (range < 256) ⌝ }
+    ensures { λ r. ⌜ (128 ≤ range * 2 ^ r) × (range * 2 ^ r < 256) × (r ≤ 7) ⌝ }
+{
+    if 128 <= range {
+        return 0;
+    }
+    NORM[range as usize] as u32
+}
+
+// S, which lies in 1 .. range - 1.
+fn split_of(range: u32, probability: u8) -> u32
+    requires { ⌜ (128 ≤ range) × (range < 256) ⌝ }
+    ensures { λ r. ⌜ (r ≡ split range probability) × (0 < r) × (r < range) ⌝ }
+{
+    1 + (range - 1) * (probability as u32) / 256
+}
+
+// S at even chances: either part is brought back by one doubling, or is 128.
+fn half_of(range: u32) -> u32
+    requires { ⌜ (128 ≤ range) × (range < 256) ⌝ }
+    ensures { λ r. ⌜ (r ≡ split range 128) × (64 ≤ r) × (r ≤ 128) × (64 ≤ range - r) × (range - r < 128) ⌝ }
+{
+    (range + 1) / 2
+}
+
+fn limit_of(value: u64) -> u32
+    ensures { λ r. ⌜ r ≡ limitOf value ⌝ }
+{
+    let top = (value >> 56) as u32;
+    if top < 127 { 128 } else { top + 1 }
+}
+
+// The window after `shift` doublings, which drop what leaves it; a byte comes in where eight bits are free.
+fn fill(area: &[u8], value: u64, doublings: u32, shift: u32) -> u64
+    requires { ⌜ Held (now area) doublings (vOf (now area) doublings value) value × (doublings < 2 ^ 31) × (shift ≤ 7) ⌝ }
+    ensures { λ r. ⌜ Held (now (area .entry)) (doublings + shift) (vOf (now (area .entry)) doublings value * 2 ^ shift % 2 ^ (bits (now (area .entry)) + 8)) r ⌝ }
+{
+    let free = doublings % 8 + shift;
+    let moved = value << shift;
+    if free < 8 {
+        return moved;
+    }
+    let byte = byte_at(area, ((doublings + shift) / 8 + 7) as usize) as u64;
+    moved + (byte << (free - 8))
+}
+
+fn digit(b: bool) -> u32
+    ensures { λ r. ⌜ r ≡ bit b ⌝ }
+{
+    if b { 1 } else { 0 }
+}
+
+fn signed_of(magnitude: u32, sign: bool) -> i32
+    requires { ⌜ magnitude < 2 ^ 31 ⌝ }
+    ensures { λ r. ⌜ r ≡ signed sign magnitude ⌝ }
+{
+    let value = magnitude as i32;
+    if sign { -value } else { value }
+}
+
+// The number of the refusal, or 0. A signed literal wants one bool beside its width.
+fn refusal(size: usize, width: u32, extra: u32, bools: u32) -> u32
+    requires { ⌜ (extra ≤ 1) × (bools ≤ 16777216) ⌝ }
+    ensures { λ r. ⌜ r ≡ refusalOf size width (width + extra) bools ⌝ }
+{
+    if BoolDecoder::AREA_LIMIT <= size {
+        return 6;
+    }
+    if BoolDecoder::WIDEST < width {
+        return 7;
+    }
+    let wanted = width + extra;
+    if size == 0 {
+        if 0 < wanted {
+            return 4;
+        }
+    }
+    if BoolDecoder::MOST_BOOLS < bools + wanted {
+        return 8;
+    }
+    0
+}
+
+impl BoolDecoder {
+    pub const START_RANGE: u32 = 255;
+
+    pub const WIDEST: u32 = 31;
+
+    pub const MOST_BOOLS: u32 = 16777216;
+
+    pub const AREA_LIMIT: usize = 268435456;
+
+    pub fn new(area: &[u8]) -> Self
+        ensures { λ r. ⌜ Fresh (now (area .entry)) r ⌝ }
+    {
+        let mut value: u64 = 0;
+        let mut at: usize = 0;
+        while at < 8 {
+            value = value * 256 + byte_at(area, at) as u64;
+            at += 1;
+        }
+        Self {
+            range: BoolDecoder::START_RANGE,
+            limit: limit_of(value),
+            value,
+            doublings: 0,
+            bools: 0,
+        }
+    }
+
+    pub fn read_bit(self, area: &[u8], probability: u8) -> Bit
+        requires { ⌜ Good (now area) self 1 ⌝ }
+        ensures { λ r. ⌜ Ran (bool probability) (now (area .entry)) self (r .bit) (r .dec) 1 ⌝ }
+    {
+        let split = split_of(self.range, probability);
+        if self.limit <= split {
+            return Bit {
+                bit: false,
+                dec: BoolDecoder {
+                    range: split,
+                    limit: self.limit,
+                    value: self.value,
+                    doublings: self.doublings,
+                    bools: self.bools + 1,
+                },
+            };
+        }
+        let big = (split as u64) << 56;
+        if big <= self.value {
+            let range = self.range - split;
+            let shift = norm(range);
+            let value = fill(area, self.value - big, self.doublings, shift);
+            Bit {
+                bit: true,
+                dec: BoolDecoder {
+                    range: range << shift,
+                    limit: limit_of(value),
+                    value,
+                    doublings: self.doublings + shift,
+                    bools: self.bools + 1,
+                },
+            }
+        } else {
+            let shift = norm(split);
+            let value = fill(area, self.value, self.doublings, shift);
+            Bit {
+                bit: false,
+                dec: BoolDecoder {
+                    range: split << shift,
+                    limit: limit_of(value),
+                    value,
+                    doublings: self.doublings + shift,
+                    bools: self.bools + 1,
+                },
+            }
+        }
+    }
+
+    // A bool at even chances: it doubles once, or not at all.
+    pub fn read_flag(self, area: &[u8]) -> Bit
+        requires { ⌜ Good (now area) self 1 ⌝ }
+        ensures { λ r. ⌜ Ran flag (now (area .entry)) self (r .bit) (r .dec) 1 ⌝ }
+    {
+        let split = half_of(self.range);
+        let big = (split as u64) << 56;
+        if big <= self.value {
+            let value = fill(area, self.value - big, self.doublings, 1);
+            Bit {
+                bit: true,
+                dec: BoolDecoder {
+                    range: (self.range - split) * 2,
+                    limit: limit_of(value),
+                    value,
+                    doublings: self.doublings + 1,
+                    bools: self.bools + 1,
+                },
+            }
+        } else {
+            if 128 <= split {
+                return Bit {
+                    bit: false,
+                    dec: BoolDecoder {
+                        range: split,
+                        limit: self.limit,
+                        value: self.value,
+                        doublings: self.doublings,
+                        bools: self.bools + 1,
+                    },
+                };
+            }
+            let value = fill(area, self.value, self.doublings, 1);
+            Bit {
+                bit: false,
+                dec: BoolDecoder {
+                    range: split * 2,
+                    limit: limit_of(value),
+                    value,
+                    doublings: self.doublings + 1,
+                    bools: self.bools + 1,
+                },
+            }
+        }
+    }
+
+    // nbits bools at even chances, the high bit first.
+    pub fn read_literal(self, area: &[u8], nbits: u32) -> Uint
+        requires { ⌜ (nbits ≤ 31) × Good (now area) self nbits ⌝ }
+        ensures { λ r. ⌜ Lit (now (area .entry)) nbits self (r .value) (r .dec) ⌝ }
+    {
+        let mut value: u32 = 0;
+        let mut dec = self;
+        for _ in 0..nbits {
+            let read = dec.read_flag(area);
+            value = value * 2 + digit(read.bit);
+            dec = read.dec;
+        }
+        Uint { value, dec }
+    }
+
+    // A magnitude of nbits bools, then a sign.
+    pub fn read_signed(self, area: &[u8], nbits: u32) -> Sint
+        requires { ⌜ (nbits ≤ 31) × Good (now area) self (nbits + 1) ⌝ }
+        ensures { λ r. ⌜ Sgn (now (area .entry)) nbits self (r .value) (r .dec) ⌝ }
+    {
+        let magnitude = self.read_literal(area, nbits);
+        let sign = magnitude.dec.read_flag(area);
+        let dec = sign.dec;
+        Sint {
+            value: signed_of(magnitude.value, sign.bit),
+            dec,
+        }
+    }
+
+    // In bits; it stops at the area's end.
+    pub fn pos(self, area: &[u8]) -> u32
+        ensures { λ r. ⌜ r ≡ position (bits (now (area .entry))) (stateOf (now (area .entry)) self) ⌝ }
+    {
+        if ((self.doublings / 8) as usize) < area.len() {
+            self.doublings
+        } else {
+            (area.len() * 8) as u32
+        }
+    }
+
+    // The count follows the doublings, even where the position has stopped.
+    pub fn snapshot(self, area: &[u8]) -> BoolDecoderState
+        requires { ⌜ Over (now area) self ⌝ }
+        ensures { λ r. ⌜ Seen (now (area .entry)) self r ⌝ }
+    {
+        BoolDecoderState {
+            range: self.range as u8,
+            value: (self.value >> 56) as u8,
+            count: ((8 - self.doublings % 8) % 8) as u8,
+        }
+    }
+
+    // The bare decoder: each read refuses before any bool is read. Its one premise: `self` is fresh or left by reads over the same area.
+    pub fn read_bool_with_prob(self, area: &[u8], probability: u8) -> BoolAnswer
+        requires { ⌜ Over (now area) self ⌝ }
+        ensures { λ r. ⌜ BoolMeets (now (area .entry)) self probability r ⌝ }
+    {
+        let number = refusal(area.len(), 1, 0, self.bools);
+        if number != 0 {
+            return BoolAnswer::Refused(number);
+        }
+        BoolAnswer::Read(self.read_bit(area, probability))
+    }
+
+    pub fn read_bool(self, area: &[u8]) -> BoolAnswer
+        requires { ⌜ Over (now area) self ⌝ }
+        ensures { λ r. ⌜ BoolMeets (now (area .entry)) self 128 r ⌝ }
+    {
+        let number = refusal(area.len(), 1, 0, self.bools);
+        if number != 0 {
+            return BoolAnswer::Refused(number);
+        }
+        BoolAnswer::Read(self.read_flag(area))
+    }
+
+    pub fn read_uint(self, area: &[u8], nbits: u32) -> UintAnswer
+        requires { ⌜ Over (now area) self ⌝ }
+        ensures { λ r. ⌜ UintMeets (now (area .entry)) self nbits r ⌝ }
+    {
+        let number = refusal(area.len(), nbits, 0, self.bools);
+        if number != 0 {
+            return UintAnswer::Refused(number);
+        }
+        UintAnswer::Read(self.read_literal(area, nbits))
+    }
+
+    pub fn read_sint(self, area: &[u8], nbits: u32) -> SintAnswer
+        requires { ⌜ Over (now area) self ⌝ }
+        ensures { λ r. ⌜ SintMeets (now (area .entry)) self nbits r ⌝ }
+    {
+        let number = refusal(area.len(), nbits, 1, self.bools);
+        if number != 0 {
+            return SintAnswer::Refused(number);
+        }
+        SintAnswer::Read(self.read_signed(area, nbits))
+    }
+}
