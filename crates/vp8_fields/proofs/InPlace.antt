@@ -1,21 +1,21 @@
 -- A loop that reads each element anew in its place is the definition's state-free read, written over what was there: one law for a loop over
 -- numbers, one for a loop over records, for every read, length and layout. By induction on the list. Assumes nothing.
 use Prim.Native.Nat.{ℕ, zero, suc, _+_, _*_, _≤_}
-use native.Mathlib.Nat.{suc-mul, zero-mul, add-zero, add-suc}
+use native.Mathlib.Nat.{suc-mul, zero-mul, add-zero, zero-add, add-suc, suc-add}
 use native.Mathlib.Omega.{arith}
 use mathlib.Core.Path.{_≡_, refl, sym, ap, ap₂, _∙_, fun-ext}
 use mathlib.Core.Bool.{Bool, true, false}
 use mathlib.Core.Option.{Option, none, some}
 use mathlib.Core.List.{List, [], _∷_, _++_}
-use lib.ListN.{length, getD, take, drop, replicate, length-append, length-drop}
-use lib.Seq.{drop-cons, drop-drop, take-add, drop-at, length-take-le}
+use lib.ListN.{length, getD, take, drop, replicate, length-drop, length-replicate}
+use lib.Seq.{drop-cons, drop-drop, take-add, drop-at, length-take-le, take-at, take-take, take-nil}
 use Rattle.vp8_records.specs.Layout.{rows, joined}
 use Rattle.rfc6386.specs.Reads.{Rd, ret, ask, _>>=_, bool, flag, when, make, times, each, maybe, orElse}
 use Rattle.rfc6386.specs.Runs.{or, over}
 use Rattle.rfc6386.specs.Coded.{anew}
 use Rattle.rfc6386.proofs.Runs.{length-over, over-append}
 use Rattle.rfc6386.proofs.Trees.{assoc, onward}
-use Rattle.vp8_fields.specs.InPlace.{eachAt}
+use Rattle.bool_decoder.specs.InPlace.{eachAt}
 
 -- a tree followed by what is made of its value, and then more
 pub make-then : {A B C : Type 0} (m : Rd A) (h : A → B) (k : B → Rd C) → make h m >>= k ≡ m >>= (λ a. k (h a))
@@ -25,6 +25,19 @@ make-then m h k = assoc m (λ a. ret (h a)) k
 pub make-make : {A B C : Type 0} (m : Rd A) (h : A → B) (g : B → C) → make g (make h m) ≡ make (λ a. g (h a)) m
 unfolding make _>>=_
 make-make m h g = assoc m (λ a. ret (h a)) (λ b. ret (g b))
+
+-- what is made of two reads, and of a read under a flag
+pub make-bind : {A B C : Type 0} (m : Rd A) (f : A → Rd B) (h : B → C) → m >>= (λ a. make h (f a)) ≡ make h (m >>= f)
+unfolding make _>>=_
+make-bind m f h = sym (assoc m f (λ b. ret (h b)))
+
+pub make-on : {A B : Type 0} (m : Rd A) (x : A) (h : A → B) {b : Bool} → b ≡ true → make h m ≡ make h (when b m x)
+unfolding when
+make-on m x h e = rw e
+
+pub make-off : {A B : Type 0} (m : Rd A) (x : A) (h : A → B) {b : Bool} → b ≡ false → ret (h x) ≡ make h (when b m x)
+unfolding when make _>>=_
+make-off m x h e = rw e
 
 -- a read that keeps the old value where none is coded
 pub kept-or : {A : Type 0} (p : ℕ) (m : Rd A) (x : A) → bool p >>= (λ b. when b m x) ≡ make (λ u. or u x) (maybe p m)
@@ -82,13 +95,30 @@ loop-over {A} f g t at h i (x ∷ xs) fits =
     ∙ sym (each-cons g p ps (λ us. ret (over us (x ∷ xs))))
     ∙ ap (λ (l : List ℕ). make (λ us. over us (x ∷ xs)) (each g (take (suc (length xs)) l))) (sym (drop-cons t (at + i) 0 (omega (arith, fits))))
 
+-- the same of one read for all n
+pub loop-times : {A : Type 0} (f : ℕ → A → Rd A) (m : Rd (Option A)) → ((i : ℕ) (x : A) → f i x ≡ make (λ u. or u x) m)
+    → (n : ℕ) (xs : List A) → length xs ≡ n → eachAt f 0 xs ≡ make (λ us. over us xs) (times n m)
+loop-times {A} f m h n xs e =
+    let t : List ℕ = replicate n 0 in
+    let part : List ℕ = take (length xs) (drop (0 + 0) t) in
+    let all : length t ≡ n = length-replicate n 0 in
+    let size : length part ≡ n = length-take-le (length xs) t (omega (arith, e, all)) ∙ e in
+    loop-over f (λ p. m) t 0 h 0 xs (omega (arith, e, all))
+    ∙ ap (λ (r : Rd (List (Option A))). make (λ us. over us xs) r) (times-each m part ∙ ap (λ (k : ℕ). times k m) size)
+
+-- the old values have no say where each is read anew
+pub some-over : {A : Type 0} (m : Rd A) (x : A) → m ≡ make (λ u. or u x) (make some m)
+unfolding make _>>=_
+some-over (ret a) x = refl
+some-over (ask p k) x = ap (ask p) (fun-ext (λ b. some-over (k b) x))
+
 abbrev pub Every : {A : Type 0} → (A → Type 0) → List A → Type 0
 Every Q [] = Unit {0}
 Every Q (x ∷ xs) = Q x × Every Q xs
 
 -- a loop over records of n numbers each: `flat` is a record's run, `laid` makes a record of the first n numbers of a run
 module _ {A : Type 0} (flat : A → List ℕ) (laid : List ℕ → A) (Good : A → Type 0) (n : ℕ) (g : ℕ → Rd (Option ℕ)) (t : List ℕ)
-    (sized : (x : A) → Good x → length (flat x) ≡ n) (own : (ys zs : List ℕ) → length ys ≡ n → laid (ys ++ zs) ≡ laid ys) where
+    (sized : (x : A) → Good x → length (flat x) ≡ n) (own : (ys : List ℕ) → laid ys ≡ laid (take n ys)) where
   -- what is written over a record and over those after it
   parted : (k : ℕ) (us vs : List (Option ℕ)) (x : A) (ys : List ℕ) → Good x → length us ≡ n
       → laid (over us (flat x)) ∷ rows k n laid (over vs ys) ≡ rows (suc k) n laid (over (us ++ vs) (flat x ++ ys))
@@ -96,7 +126,7 @@ module _ {A : Type 0} (flat : A → List ℕ) (laid : List ℕ → A) (Good : A 
   parted k us vs x ys h e =
       let a : over (us ++ vs) (flat x ++ ys) ≡ over us (flat x) ++ over vs ys = over-append us vs (flat x) ys (sized x h ∙ sym e) in
       let b : length (over us (flat x)) ≡ n = length-over us (flat x) ∙ sized x h in
-      rw a (sym (ap₂ {C = List A} (λ y l. y ∷ rows k n laid l) (own (over us (flat x)) (over vs ys) b) (drop-at (over us (flat x)) (over vs ys) n b)))
+      rw a (sym (ap₂ {C = List A} (λ y l. y ∷ rows k n laid l) (own (over us (flat x) ++ over vs ys) ∙ ap laid (take-at (over us (flat x)) (over vs ys) n b)) (drop-at (over us (flat x)) (over vs ys) n b)))
 
   abbrev pub part : ℕ → A → Rd A
   part at x = make (λ us. laid (over us (flat x))) (each g (take n (drop at t)))
@@ -124,6 +154,41 @@ module _ {A : Type 0} (flat : A → List ℕ) (laid : List ℕ → A) (Good : A 
       ∙ onward (each g qs) (λ vs. ap (λ (l : List A). ret l) (parted (length xs) us vs x (joined flat xs) (h .0) (e ∙ size))))
       ∙ sym (each-append g ps qs (λ us. ret (rows (suc (length xs)) n laid (over us (flat x ++ joined flat xs)))))
       ∙ ap (λ (l : List ℕ). make (λ us. rows (suc (length xs)) n laid (over us (flat x ++ joined flat xs))) (each g l)) (sym whole)
+
+  -- a record over such a loop; `wrap` makes it of its parts
+  pub level : {R : Type 0} (wrap : List A → R) (k at : ℕ) (xs : List A) → length xs ≡ k → Every Good xs → at + k * n ≤ length t
+      → make wrap (eachAt (λ i. part (at + i * n)) 0 xs)
+      ≡ make (λ us. wrap (rows k n laid (over us (joined flat xs)))) (each g (take (k * n) (drop at t)))
+  level {R} wrap k at xs e h fits =
+      let z : at + 0 * n ≡ at = omega (arith, zero-mul n) in
+      ap (λ (m : Rd (List A)). make wrap m) (rw (z, e) at (loop-rows at 0 xs h (rw (z, e) fits)))
+      ∙ make-make (each g (take (k * n) (drop at t))) (λ us. rows k n laid (over us (joined flat xs))) wrap
+
+-- a record over a loop of numbers
+pub leaf : {A R : Type 0} (wrap : List A → R) (f : ℕ → A → Rd A) (g : ℕ → Rd (Option A)) (t : List ℕ) (at n : ℕ)
+    → ((i : ℕ) (x : A) → f i x ≡ make (λ u. or u x) (g (getD t (at + i) 0)))
+    → (xs : List A) → length xs ≡ n → at + n ≤ length t
+    → make wrap (eachAt f 0 xs) ≡ make (λ us. wrap (over us xs)) (each g (take n (drop at t)))
+leaf {A} {R} wrap f g t at n h xs e fits =
+    ap (λ (m : Rd (List A)). make wrap m) (rw (add-zero, e) at (loop-over f g t at h 0 xs (rw (add-zero, e) fits)))
+    ∙ make-make (each g (take n (drop at t))) (λ us. over us xs) wrap
+
+drop-take : (n m : ℕ) (l : List ℕ) → drop n (take (n + m) l) ≡ take m (drop n l)
+drop-take zero m l = ap (λ (k : ℕ). take k l) (zero-add m)
+drop-take (suc n) m [] = ap (λ (l : List ℕ). drop (suc n) l) (take-nil (suc n + m)) ∙ sym (take-nil m)
+drop-take (suc n) m (x ∷ xs) = ap (λ (k : ℕ). drop (suc n) (take k (x ∷ xs))) (suc-add n m) ∙ drop-take n m xs
+
+-- k parts read no more than k · n numbers, where a part reads no more than n
+pub rows-own : {A : Type 0} (laid : List ℕ → A) (n : ℕ) → ((ys : List ℕ) → laid ys ≡ laid (take n ys))
+    → (k : ℕ) (ys : List ℕ) → rows k n laid ys ≡ rows k n laid (take (k * n) ys)
+unfolding rows
+rows-own laid n own zero ys = refl
+rows-own {A} laid n own (suc k) ys =
+    let all : suc k * n ≡ n + k * n = omega (arith, suc-mul k n) in
+    let head : laid ys ≡ laid (take (suc k * n) ys) =
+    own ys ∙ ap laid (sym (take-take n (suc k * n) ys (omega (arith, all)))) ∙ sym (own (take (suc k * n) ys)) in
+    let tail : drop n (take (suc k * n) ys) ≡ take (k * n) (drop n ys) = ap (λ (j : ℕ). drop n (take j ys)) all ∙ drop-take n (k * n) ys in
+    ap₂ {C = List A} (λ y zs. y ∷ zs) head (rows-own laid n own k (drop n ys) ∙ ap (λ (l : List ℕ). rows k n laid l) (sym tail))
 
 times-cons : {A C : Type 0} (n : ℕ) (m : Rd A) (k : List A → Rd C) → times (suc n) m >>= k ≡ m >>= (λ x. times n m >>= (λ xs. k (x ∷ xs)))
 unfolding times _>>=_

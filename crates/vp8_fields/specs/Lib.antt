@@ -1,2 +1,2 @@
--- x
-pub mod InPlace
+-- What the contracts cite beside the definition.
+pub mod Parts

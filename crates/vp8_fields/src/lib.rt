@@ -1,1 +1,602 @@
-// x
+// The sub-headers of parser.rs: each takes the decoder over an area and the record as it was, and gives the record and the decoder after it.
+// A contract says that the definition's tree was run: what it read, written over the old record, and where the decoder then stands.
+use bool_decoder::Bit;
+use bool_decoder::BoolDecoder;
+use vp8_records::Bands;
+use vp8_records::CoeffProbs;
+use vp8_records::Contexts;
+use vp8_records::MbLfAdjustments;
+use vp8_records::ModeProbs;
+use vp8_records::MvContext;
+use vp8_records::MvProbs;
+use vp8_records::QuantIndices;
+use vp8_records::Segmentation;
+use vp8_records::Tokens;
+ghost use mathlib.Core.Path.{_≡_};
+ghost use mathlib.Core.Bool.{false};
+ghost use mathlib.Core.Option.{some};
+ghost use mathlib.Core.List.{[]};
+ghost use Prim.Native.Nat.{_+_, _*_, _≤_};
+ghost use Rattle.vp8_probs.specs.Tables.{coeffUpdate, mvUpdate};
+ghost use Rattle.vp8_records.specs.Layout.{flatTokens, laidTokens, flatContexts, laidContexts, flatBands, laidBands, flatMvContext, laidMvContext};
+ghost use Rattle.rfc6386.specs.Reads.{flag, when, lit, sint, make, times, maybe, orElse};
+ghost use Rattle.rfc6386.specs.Runs.{or, over};
+ghost use Rattle.rfc6386.specs.Coded.{anew, features, noFeatures, segments, deltas, quant, coefficients, mvOf, motion, modes};
+ghost use Rattle.rfc6386.specs.Call.{segmented, adjusted, coeffsOver, mvOver};
+ghost use Rattle.bool_decoder.specs.Model.{Good, Ran, Lit};
+ghost use Rattle.vp8_fields.specs.Parts.{coded, codedMv, part, bothModes};
+
+// What was read, and the decoder after it.
+pub struct Byte {
+    pub value: u8,
+    pub dec: BoolDecoder,
+}
+
+pub struct Int {
+    pub value: i8,
+    pub dec: BoolDecoder,
+}
+
+pub struct Ints {
+    pub values: [i8; 4],
+    pub dec: BoolDecoder,
+}
+
+pub struct ThreeBytes {
+    pub values: [u8; 3],
+    pub dec: BoolDecoder,
+}
+
+pub struct FourBytes {
+    pub values: [u8; 4],
+    pub dec: BoolDecoder,
+}
+
+pub struct SegmentationRead {
+    pub segmentation: Segmentation,
+    pub dec: BoolDecoder,
+}
+
+pub struct AdjustmentsRead {
+    pub mb_lf_adjust: MbLfAdjustments,
+    pub dec: BoolDecoder,
+}
+
+pub struct QuantRead {
+    pub quant_indices: QuantIndices,
+    pub dec: BoolDecoder,
+}
+
+pub struct TokensRead {
+    pub row: Tokens,
+    pub dec: BoolDecoder,
+}
+
+pub struct ContextsRead {
+    pub row: Contexts,
+    pub dec: BoolDecoder,
+}
+
+pub struct BandsRead {
+    pub row: Bands,
+    pub dec: BoolDecoder,
+}
+
+pub struct CoeffRead {
+    pub coeff_prob: CoeffProbs,
+    pub dec: BoolDecoder,
+}
+
+pub struct MvContextRead {
+    pub row: MvContext,
+    pub dec: BoolDecoder,
+}
+
+pub struct MvRead {
+    pub mv_prob: MvProbs,
+    pub dec: BoolDecoder,
+}
+
+pub struct ModesRead {
+    pub mode_probs: ModeProbs,
+    pub dec: BoolDecoder,
+}
+
+// A flag where `on` is set, false where it isn't.
+pub fn flag_if(area: &[u8], dec: BoolDecoder, on: bool) -> Bit
+    requires { ⌜ Good (now area) dec 1 ⌝ }
+    ensures { λ r. ⌜ Ran (when on flag false) (now (area .entry)) dec (r .bit) (r .dec) 1 ⌝ }
+{
+    if on {
+        dec.read_flag(area)
+    } else {
+        Bit { bit: false, dec }
+    }
+}
+
+// A literal that fits a byte.
+pub fn read_byte(area: &[u8], dec: BoolDecoder, nbits: u32) -> Byte
+    requires { ⌜ (nbits ≤ 8) × Good (now area) dec nbits ⌝ }
+    ensures { λ r. ⌜ Lit (now (area .entry)) nbits dec (r .value) (r .dec) ⌝ }
+{
+    let n = dec.read_literal(area, nbits);
+    let after = n.dec;
+    Byte {
+        value: n.value as u8,
+        dec: after,
+    }
+}
+
+// The same where `on` is set, 0 where it isn't.
+pub fn byte_if(area: &[u8], dec: BoolDecoder, on: bool, nbits: u32) -> Byte
+    requires { ⌜ (nbits ≤ 8) × Good (now area) dec nbits ⌝ }
+    ensures { λ r. ⌜ Ran (when on (lit nbits) 0) (now (area .entry)) dec (r .value) (r .dec) nbits ⌝ }
+{
+    if on {
+        read_byte(area, dec, nbits)
+    } else {
+        Byte { value: 0, dec }
+    }
+}
+
+// A magnitude and a sign where their flag is set, `other` where it isn't.
+fn sint_or(area: &[u8], dec: BoolDecoder, nbits: u32, other: i8) -> Int
+    requires { ⌜ (nbits ≤ 7) × Good (now area) dec (nbits + 2) ⌝ }
+    ensures { λ r. ⌜ Ran (orElse (sint nbits) other) (now (area .entry)) dec (r .value) (r .dec) (nbits + 2) ⌝ }
+{
+    let update = dec.read_flag(area);
+    let next = update.dec;
+    if update.bit {
+        let n = next.read_signed(area, nbits);
+        let after = n.dec;
+        Int {
+            value: n.value as i8,
+            dec: after,
+        }
+    } else {
+        Int {
+            value: other,
+            dec: next,
+        }
+    }
+}
+
+// Four of them, each kept where its flag is clear.
+fn sints_or(area: &[u8], dec: BoolDecoder, nbits: u32, old: [i8; 4]) -> Ints
+    requires { ⌜ (nbits ≤ 7) × Good (now area) dec ((nbits + 2) * 4) ⌝ }
+    ensures { λ r. ⌜ Ran (make (λ us. over us old) (times 4 (maybe 128 (sint nbits)))) (now (area .entry)) dec (r .values) (r .dec) ((nbits + 2) * 4) ⌝ }
+{
+    let mut values = old;
+    let mut next = dec;
+    let mut i = 0;
+    while i < 4 {
+        let n = sint_or(area, next, nbits, values[i]);
+        next = n.dec;
+        let value = n.value;
+        values[i] = value;
+        i += 1;
+    }
+    Ints { values, dec: next }
+}
+
+// A probability where its bool, at the chance p, is set, `other` where it isn't.
+fn byte_or(area: &[u8], dec: BoolDecoder, p: u8, other: u8) -> Byte
+    requires { ⌜ Good (now area) dec 9 ⌝ }
+    ensures { λ r. ⌜ Ran (make (λ u. or u other) (coded p)) (now (area .entry)) dec (r .value) (r .dec) 9 ⌝ }
+{
+    let update = dec.read_bit(area, p);
+    let next = update.dec;
+    if update.bit {
+        read_byte(area, next, 8)
+    } else {
+        Byte {
+            value: other,
+            dec: next,
+        }
+    }
+}
+
+// Three of them at even chances.
+fn segment_probs(area: &[u8], dec: BoolDecoder, old: [u8; 3]) -> ThreeBytes
+    requires { ⌜ Good (now area) dec 27 ⌝ }
+    ensures { λ r. ⌜ Ran (make (λ us. over us old) (times 3 (maybe 128 (lit 8)))) (now (area .entry)) dec (r .values) (r .dec) 27 ⌝ }
+{
+    let mut values = old;
+    let mut next = dec;
+    let mut i = 0;
+    while i < 3 {
+        let n = byte_or(area, next, 128, values[i]);
+        next = n.dec;
+        values[i] = n.value;
+        i += 1;
+    }
+    ThreeBytes { values, dec: next }
+}
+
+// The same where `on` is set; three of 255 are what the probabilities start from.
+fn segment_probs_if(area: &[u8], dec: BoolDecoder, on: bool, old: [u8; 3]) -> ThreeBytes
+    requires { ⌜ Good (now area) dec 27 ⌝ }
+    ensures { λ r. ⌜ Ran (make (λ us. over us old) (when on (anew 3 (lit 8) 255) [])) (now (area .entry)) dec (r .values) (r .dec) 27 ⌝ }
+{
+    if on {
+        segment_probs(area, dec, [255; 3])
+    } else {
+        ThreeBytes { values: old, dec }
+    }
+}
+
+// The feature data of a record whose three flags are as they were read.
+fn feature_data(area: &[u8], dec: BoolDecoder, seg: Segmentation) -> SegmentationRead
+    requires { ⌜ Good (now area) dec 96 ⌝ }
+    ensures { λ r. ⌜ Ran (make (λ c. segmented c seg) (features (seg .«segmentation_enabled») (seg .«update_mb_segmentation_map») (seg .«update_segment_feature_data»))) (now (area .entry)) dec (r .segmentation) (r .dec) 96 ⌝ }
+{
+    let mode = dec.read_flag(area);
+    let quantizers = sints_or(area, mode.dec, 7, [0; 4]);
+    let levels = sints_or(area, quantizers.dec, 6, [0; 4]);
+    let old = seg.segment_prob;
+    let probs = segment_probs_if(area, levels.dec, seg.update_mb_segmentation_map, old);
+    let quantizer_update_value = quantizers.values;
+    let lf_update_value = levels.values;
+    let segment_prob = probs.values;
+    let mut segmentation = seg;
+    segmentation.segment_feature_mode = mode.bit;
+    segmentation.quantizer_update_value = quantizer_update_value;
+    segmentation.lf_update_value = lf_update_value;
+    segmentation.segment_prob = segment_prob;
+    let after = probs.dec;
+    SegmentationRead {
+        segmentation,
+        dec: after,
+    }
+}
+
+// The same where they are coded.
+fn feature_data_if(area: &[u8], dec: BoolDecoder, seg: Segmentation) -> SegmentationRead
+    requires { ⌜ Good (now area) dec 96 ⌝ }
+    ensures { λ r. ⌜ Ran (make (λ c. segmented c seg) (when (seg .«update_segment_feature_data») (features (seg .«segmentation_enabled») (seg .«update_mb_segmentation_map») (seg .«update_segment_feature_data»)) (noFeatures (seg .«segmentation_enabled») (seg .«update_mb_segmentation_map») (seg .«update_segment_feature_data»)))) (now (area .entry)) dec (r .segmentation) (r .dec) 96 ⌝ }
+{
+    if seg.update_segment_feature_data {
+        feature_data(area, dec, seg)
+    } else {
+        SegmentationRead {
+            segmentation: seg,
+            dec,
+        }
+    }
+}
+
+pub fn update_segmentation(area: &[u8], dec: BoolDecoder, seg: Segmentation) -> SegmentationRead
+    requires { ⌜ Good (now area) dec 99 ⌝ }
+    ensures { λ r. ⌜ Ran (make (λ c. segmented c seg) segments) (now (area .entry)) dec (r .segmentation) (r .dec) 99 ⌝ }
+{
+    let enabled = dec.read_flag(area);
+    let map = flag_if(area, enabled.dec, enabled.bit);
+    let feature = flag_if(area, map.dec, enabled.bit);
+    let mut flagged = seg;
+    flagged.segmentation_enabled = enabled.bit;
+    flagged.update_mb_segmentation_map = map.bit;
+    flagged.update_segment_feature_data = feature.bit;
+    feature_data_if(area, feature.dec, flagged)
+}
+
+// Four filter deltas where `on` is set, as they were where it isn't.
+fn deltas_if(area: &[u8], dec: BoolDecoder, on: bool, old: [i8; 4]) -> Ints
+    requires { ⌜ Good (now area) dec 32 ⌝ }
+    ensures { λ r. ⌜ Ran (make (λ us. over us old) (when on (times 4 (maybe 128 (sint 6))) [])) (now (area .entry)) dec (r .values) (r .dec) 32 ⌝ }
+{
+    if on {
+        sints_or(area, dec, 6, old)
+    } else {
+        Ints { values: old, dec }
+    }
+}
+
+pub fn parse_mb_lf_adjustments(
+    area: &[u8],
+    dec: BoolDecoder,
+    adj: MbLfAdjustments,
+) -> AdjustmentsRead
+    requires { ⌜ Good (now area) dec 66 ⌝ }
+    ensures { λ r. ⌜ Ran (make (λ c. adjusted c adj) deltas) (now (area .entry)) dec (r .«mb_lf_adjust») (r .dec) 66 ⌝ }
+{
+    let enable = dec.read_flag(area);
+    let update = flag_if(area, enable.dec, enable.bit);
+    let old_frames = adj.ref_frame_delta;
+    let frames = deltas_if(area, update.dec, update.bit, old_frames);
+    let old_modes = adj.mb_mode_delta;
+    let modes = deltas_if(area, frames.dec, update.bit, old_modes);
+    let ref_frame_delta = frames.values;
+    let mb_mode_delta = modes.values;
+    let mb_lf_adjust = MbLfAdjustments {
+        loop_filter_adj_enable: enable.bit,
+        mode_ref_lf_delta_update: update.bit,
+        ref_frame_delta,
+        mb_mode_delta,
+    };
+    let after = modes.dec;
+    AdjustmentsRead {
+        mb_lf_adjust,
+        dec: after,
+    }
+}
+
+pub fn parse_quant_indices(area: &[u8], dec: BoolDecoder) -> QuantRead
+    requires { ⌜ Good (now area) dec 37 ⌝ }
+    ensures { λ r. ⌜ Ran quant (now (area .entry)) dec (r .«quant_indices») (r .dec) 37 ⌝ }
+{
+    let y_ac_qi = read_byte(area, dec, 7);
+    let y_dc = sint_or(area, y_ac_qi.dec, 4, 0);
+    let y2_dc = sint_or(area, y_dc.dec, 4, 0);
+    let y2_ac = sint_or(area, y2_dc.dec, 4, 0);
+    let uv_dc = sint_or(area, y2_ac.dec, 4, 0);
+    let uv_ac = sint_or(area, uv_dc.dec, 4, 0);
+    let quant_indices = QuantIndices {
+        y_ac_qi: y_ac_qi.value,
+        y_dc_delta: y_dc.value,
+        y2_dc_delta: y2_dc.value,
+        y2_ac_delta: y2_ac.value,
+        uv_dc_delta: uv_dc.value,
+        uv_ac_delta: uv_ac.value,
+    };
+    let after = uv_ac.dec;
+    QuantRead {
+        quant_indices,
+        dec: after,
+    }
+}
+
+// The eleven of one context, whose chances stand in the table from `at` on.
+fn tokens(area: &[u8], table: &[u8; 1056], dec: BoolDecoder, at: usize, row: Tokens) -> TokensRead
+    requires { ⌜ (now table ≡ coeffUpdate) × (at + 11 ≤ 1056) × Good (now area) dec 99 ⌝ }
+    ensures { λ r. ⌜ Ran (part flatTokens laidTokens 11 coded coeffUpdate at row) (now (area .entry)) dec (r .row) (r .dec) 99 ⌝ }
+{
+    let mut out = row;
+    let mut next = dec;
+    let mut l = 0;
+    while l < 11 {
+        let p = table[at + l];
+        let n = byte_or(area, next, p, out.v[l]);
+        next = n.dec;
+        out.v[l] = n.value;
+        l += 1;
+    }
+    TokensRead {
+        row: out,
+        dec: next,
+    }
+}
+
+// The three contexts of a band.
+fn contexts(
+    area: &[u8],
+    table: &[u8; 1056],
+    dec: BoolDecoder,
+    at: usize,
+    row: Contexts,
+) -> ContextsRead
+    requires { ⌜ (now table ≡ coeffUpdate) × (at + 33 ≤ 1056) × Good (now area) dec 297 ⌝ }
+    ensures { λ r. ⌜ Ran (part flatContexts laidContexts 33 coded coeffUpdate at row) (now (area .entry)) dec (r .row) (r .dec) 297 ⌝ }
+{
+    let mut out = row;
+    let mut next = dec;
+    let mut k = 0;
+    while k < 3 {
+        let n = tokens(area, table, next, at + k * 11, out.v[k]);
+        next = n.dec;
+        let made = n.row;
+        out.v[k] = made;
+        k += 1;
+    }
+    ContextsRead {
+        row: out,
+        dec: next,
+    }
+}
+
+// The eight bands of a block type.
+fn bands(area: &[u8], table: &[u8; 1056], dec: BoolDecoder, at: usize, row: Bands) -> BandsRead
+    requires { ⌜ (now table ≡ coeffUpdate) × (at + 264 ≤ 1056) × Good (now area) dec 2376 ⌝ }
+    ensures { λ r. ⌜ Ran (part flatBands laidBands 264 coded coeffUpdate at row) (now (area .entry)) dec (r .row) (r .dec) 2376 ⌝ }
+{
+    let mut out = row;
+    let mut next = dec;
+    let mut j = 0;
+    while j < 8 {
+        let n = contexts(area, table, next, at + j * 33, out.v[j]);
+        next = n.dec;
+        let made = n.row;
+        out.v[j] = made;
+        j += 1;
+    }
+    BandsRead {
+        row: out,
+        dec: next,
+    }
+}
+
+// The table is made once, and lent down.
+pub fn parse_token_prob_update(area: &[u8], dec: BoolDecoder, coeff_probs: CoeffProbs) -> CoeffRead
+    requires { ⌜ Good (now area) dec 9504 ⌝ }
+    ensures { λ r. ⌜ Ran (make (λ us. coeffsOver us «coeff_probs») coefficients) (now (area .entry)) dec (r .«coeff_prob») (r .dec) 9504 ⌝ }
+{
+    let mut out = coeff_probs;
+    let mut next = dec;
+    let table = vp8_probs::coeff_update_probs();
+    let mut i = 0;
+    while i < 4 {
+        let n = bands(area, &table, next, i * 264, out.v[i]);
+        next = n.dec;
+        let made = n.row;
+        out.v[i] = made;
+        i += 1;
+    }
+    CoeffRead {
+        coeff_prob: out,
+        dec: next,
+    }
+}
+
+// A motion probability: 7 bits, of which 0 stands for 1 and all else for twice the value.
+fn mv_of(update: u8) -> u8
+    requires { ⌜ update ≤ 127 ⌝ }
+    ensures { λ r. ⌜ r ≡ mvOf update ⌝ }
+{
+    if 0 < update { update * 2 } else { 1 }
+}
+
+// One where its bool, at the chance p, is set, `other` where it isn't.
+fn mv_or(area: &[u8], dec: BoolDecoder, p: u8, other: u8) -> Byte
+    requires { ⌜ Good (now area) dec 8 ⌝ }
+    ensures { λ r. ⌜ Ran (make (λ u. or u other) (codedMv p)) (now (area .entry)) dec (r .value) (r .dec) 8 ⌝ }
+{
+    let update = dec.read_bit(area, p);
+    let next = update.dec;
+    if update.bit {
+        let n = read_byte(area, next, 7);
+        let after = n.dec;
+        Byte {
+            value: mv_of(n.value),
+            dec: after,
+        }
+    } else {
+        Byte {
+            value: other,
+            dec: next,
+        }
+    }
+}
+
+// The nineteen of one component, whose chances stand in the table from `at` on.
+fn mv_context(
+    area: &[u8],
+    table: &[u8; 38],
+    dec: BoolDecoder,
+    at: usize,
+    row: MvContext,
+) -> MvContextRead
+    requires { ⌜ (now table ≡ mvUpdate) × (at + 19 ≤ 38) × Good (now area) dec 152 ⌝ }
+    ensures { λ r. ⌜ Ran (part flatMvContext laidMvContext 19 codedMv mvUpdate at row) (now (area .entry)) dec (r .row) (r .dec) 152 ⌝ }
+{
+    let mut out = row;
+    let mut next = dec;
+    let mut j = 0;
+    while j < 19 {
+        let p = table[at + j];
+        let n = mv_or(area, next, p, out.v[j]);
+        next = n.dec;
+        out.v[j] = n.value;
+        j += 1;
+    }
+    MvContextRead {
+        row: out,
+        dec: next,
+    }
+}
+
+pub fn parse_mv_prob_update(area: &[u8], dec: BoolDecoder, mv_probs: MvProbs) -> MvRead
+    requires { ⌜ Good (now area) dec 304 ⌝ }
+    ensures { λ r. ⌜ Ran (make (λ us. mvOver us «mv_probs») motion) (now (area .entry)) dec (r .«mv_prob») (r .dec) 304 ⌝ }
+{
+    let mut out = mv_probs;
+    let mut next = dec;
+    let table = vp8_probs::tables::MV_UPDATE_PROBS;
+    let mut i = 0;
+    while i < 2 {
+        let n = mv_context(area, &table, next, i * 19, out.v[i]);
+        next = n.dec;
+        let made = n.row;
+        out.v[i] = made;
+        i += 1;
+    }
+    MvRead {
+        mv_prob: out,
+        dec: next,
+    }
+}
+
+// Four literals of 8 bools.
+fn four_bytes(area: &[u8], dec: BoolDecoder, old: [u8; 4]) -> FourBytes
+    requires { ⌜ Good (now area) dec 32 ⌝ }
+    ensures { λ r. ⌜ Ran (make (λ us. over us old) (times 4 (make some (lit 8)))) (now (area .entry)) dec (r .values) (r .dec) 32 ⌝ }
+{
+    let mut values = old;
+    let mut next = dec;
+    let mut i = 0;
+    while i < 4 {
+        let n = read_byte(area, next, 8);
+        next = n.dec;
+        values[i] = n.value;
+        i += 1;
+    }
+    FourBytes { values, dec: next }
+}
+
+// Three of them.
+fn three_bytes(area: &[u8], dec: BoolDecoder, old: [u8; 3]) -> ThreeBytes
+    requires { ⌜ Good (now area) dec 24 ⌝ }
+    ensures { λ r. ⌜ Ran (make (λ us. over us old) (times 3 (make some (lit 8)))) (now (area .entry)) dec (r .values) (r .dec) 24 ⌝ }
+{
+    let mut values = old;
+    let mut next = dec;
+    let mut i = 0;
+    while i < 3 {
+        let n = read_byte(area, next, 8);
+        next = n.dec;
+        values[i] = n.value;
+        i += 1;
+    }
+    ThreeBytes { values, dec: next }
+}
+
+fn luma_modes(area: &[u8], dec: BoolDecoder, old: [u8; 4]) -> FourBytes
+    requires { ⌜ Good (now area) dec 33 ⌝ }
+    ensures { λ r. ⌜ Ran (make (λ us. over us old) (modes 4)) (now (area .entry)) dec (r .values) (r .dec) 33 ⌝ }
+{
+    let update = dec.read_flag(area);
+    let next = update.dec;
+    if update.bit {
+        four_bytes(area, next, old)
+    } else {
+        FourBytes {
+            values: old,
+            dec: next,
+        }
+    }
+}
+
+fn chroma_modes(area: &[u8], dec: BoolDecoder, old: [u8; 3]) -> ThreeBytes
+    requires { ⌜ Good (now area) dec 25 ⌝ }
+    ensures { λ r. ⌜ Ran (make (λ us. over us old) (modes 3)) (now (area .entry)) dec (r .values) (r .dec) 25 ⌝ }
+{
+    let update = dec.read_flag(area);
+    let next = update.dec;
+    if update.bit {
+        three_bytes(area, next, old)
+    } else {
+        ThreeBytes {
+            values: old,
+            dec: next,
+        }
+    }
+}
+
+pub fn parse_mode_prob_update(area: &[u8], dec: BoolDecoder, mode_probs: ModeProbs) -> ModesRead
+    requires { ⌜ Good (now area) dec 58 ⌝ }
+    ensures { λ r. ⌜ Ran (bothModes «mode_probs») (now (area .entry)) dec (r .«mode_probs») (r .dec) 58 ⌝ }
+{
+    let old_luma = mode_probs.intra_16x16_prob;
+    let luma = luma_modes(area, dec, old_luma);
+    let old_chroma = mode_probs.intra_chroma_prob;
+    let chroma = chroma_modes(area, luma.dec, old_chroma);
+    let intra_16x16_prob = luma.values;
+    let intra_chroma_prob = chroma.values;
+    let made = ModeProbs {
+        intra_16x16_prob,
+        intra_chroma_prob,
+    };
+    let after = chroma.dec;
+    ModesRead {
+        mode_probs: made,
+        dec: after,
+    }
+}
