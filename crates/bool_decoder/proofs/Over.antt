@@ -111,9 +111,6 @@ pub record Chosen (area : List ℕ) (d : BoolDecoder) (p : ℕ) (b : Bool) (r v 
   pub high : r < 256
 
 module _ {area : List ℕ} {d : BoolDecoder} (O : Over area d) (p : ℕ) {s : ℕ} (is : s ≡ split (d .range) p) (lt : s < d .range) where
-  big : s * 2 ^ 56 % 2 ^ 64 ≡ s * 2 ^ 56
-  big = shl-exact {a = s} 8 56 64 (omega (arith, O .high)) (omega arith)
-
   abbrev v : ℕ
   v = vOf area (d .doublings) (d .value)
 
@@ -123,30 +120,31 @@ module _ {area : List ℕ} {d : BoolDecoder} (O : Over area d) (p : ℕ) {s : �
   below-one : x < 2 ^ bits area
   below-one = rest-lt area (d .doublings / 8 + 8) (O .bytes)
 
-  pub chosen-one : s * 2 ^ 56 % 2 ^ 64 ≤ d .value → Chosen area d p true (d .range - s) (v - s * 2 ^ bits area) (d .value - s * 2 ^ 56 % 2 ^ 64)
+  -- g is the split where the window has V's whole part
+  pub chosen-one : {g : ℕ} → g ≡ s * 2 ^ 56 → g ≤ d .value → Chosen area d p true (d .range - s) (v - s * 2 ^ bits area) (d .value - g)
   unfolding readBool chosen
-  chosen-one h =
-      let g : s * 2 ^ 56 ≤ d .value = rw big at h in
+  chosen-one {g} e h =
+      let k : s * 2 ^ 56 ≤ d .value = rw e at h in
       let t : leb (s * 2 ^ bits area) v ≡ true =
-      le-leb _ _ (one-is 56 (2 ^ bits area) (d .doublings % 8) x v (d .value) (O .holds) below-one s g) in
+      le-leb _ _ (one-is 56 (2 ^ bits area) (d .doublings % 8) x v (d .value) (O .holds) below-one s k) in
       record {
         is = rw (← is, t);
-        holds = rw big (less 56 (2 ^ bits area) (d .doublings % 8) x v (d .value) (O .holds) below-one s (omega arith) g);
+        holds = rw e (less 56 (2 ^ bits area) (d .doublings % 8) x v (d .value) (O .holds) below-one s (omega arith) k);
         high = omega (arith, O .high);
       }
 
-  pub chosen-zero : d .value < s * 2 ^ 56 % 2 ^ 64 → Chosen area d p false s v (d .value)
+  pub chosen-zero : {g : ℕ} → g ≡ s * 2 ^ 56 → d .value < g → Chosen area d p false s v (d .value)
   unfolding readBool chosen
-  chosen-zero h =
+  chosen-zero e h =
       let t : leb (s * 2 ^ bits area) v ≡ false =
-      lt-leb _ _ (zero-is 56 (2 ^ bits area) (d .doublings % 8) x v (d .value) (O .holds) below-one s (omega arith) (rw big at h)) in
+      lt-leb _ _ (zero-is 56 (2 ^ bits area) (d .doublings % 8) x v (d .value) (O .holds) below-one s (omega arith) (rw e at h)) in
       record { is = rw (← is, t); holds = O .holds; high = omega (arith, O .high) }
 
   -- a split of the limit or more is 128 or more, and above the window
-  pub limit-is : d .limit ≤ s → (128 ≤ s) × (d .value < s * 2 ^ 56 % 2 ^ 64)
+  pub limit-is : d .limit ≤ s → (128 ≤ s) × (d .value < s * 2 ^ 56)
   limit-is h = (
     omega (arith, O .limit, limit-low (d .value)),
-    rw big (omega (arith, O .limit, limit-above (d .value), mul-le-mul-right (2 ^ 56) h)),
+    omega (arith, O .limit, limit-above (d .value), mul-le-mul-right (2 ^ 56) h),
   )
 
 -- one bool, counted
