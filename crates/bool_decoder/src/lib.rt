@@ -4,7 +4,6 @@
 use bitstream_utils::byte_at;
 ghost use mathlib.Core.Path.{_≡_};
 ghost use Prim.Native.Nat.{_+_, _-_, _*_, _%_, _^_, _<_, _≤_};
-ghost use lib.ListN.{length};
 ghost use Rattle.rfc6386.specs.Decoder.{bits, split, pick, refusalOf, position};
 ghost use Rattle.rfc6386.specs.Reads.{bool, flag, bit, signed};
 ghost use Rattle.bool_decoder.specs.Window.{Held, vOf, stateOf, limitOf, Over};
@@ -389,14 +388,14 @@ fn signed_of(magnitude: u32, sign: bool) -> i32
     if sign { -value } else { value }
 }
 
-// This number where the test holds, and else what the tests after it gave.
+// This number where the test holds, and else the next.
 fn refuse_if(test: bool, number: u32, next: u32) -> u32
     ensures { λ r. ⌜ r ≡ pick test number next ⌝ }
 {
     if test { number } else { next }
 }
 
-// The number of the refusal, or 0. The last test comes first in the order of checking. A signed literal wants one bool beside its width.
+// The number of the refusal, or 0: a later line goes before an earlier one, so 6, 7, 4, 8. A signed literal wants one bool beside its width.
 fn refusal(size: usize, width: u32, extra: u32, bools: u32) -> u32
     ensures { λ r. ⌜ r ≡ refusalOf size width (width + extra) bools ⌝ }
 {
