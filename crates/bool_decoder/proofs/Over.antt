@@ -10,13 +10,13 @@ use borrow.Author.Tests.{le-leb, lt-leb, ltb-true, ltb-false}
 use lib.ListN.{getD}
 use lib.Dec.{leb, ltb, lit<, lit≤}
 use lib.Pow.{pow-pos, pow-add, shl-exact}
-use Rattle.rfc6386.specs.Decoder.{number, bits, State, start, normal, split, chosen, Out, readBool, pick}
+use Rattle.rfc6386.specs.Decoder.{number, bits, State, start, normal, split, chosen, readBool, pick}
 use Rattle.rfc6386.specs.Reads.{run, bool}
 use Rattle.bool_decoder.specs.Window.{rest, Holds, Held, vOf, stateOf, limitOf, Over}
 use Rattle.bool_decoder.specs.Model.{out, Good, Ran, Fresh}
 use Rattle.bool_decoder.specs.declared.BoolDecoder.{BoolDecoder}
 use Rattle.bool_decoder.proofs.Laws.{one-is, zero-is, v-below, whole-is, less, shift, take-byte}
-use Rattle.bool_decoder.proofs.Normal.{shifted, normal-is, normal-high}
+use Rattle.bool_decoder.proofs.Normal.{normal-is, normal-high}
 use Rattle.bool_decoder.proofs.Stream.{rest-step, rest-lt}
 
 -- the limit is 128 or more, and above the window's whole part
@@ -67,7 +67,6 @@ fresh area w at is8 small whole bytes =
     }
 
 module _ (area : List ℕ) (bytes : (i : ℕ) → getD area i 0 < 256) (c v w : ℕ) (H : Held area c v w) where
-  -- what stands to come is below one byte's step
   to-come : rest area (c / 8 + 8) < 2 ^ bits area
   to-come = rest-lt area (c / 8 + 8) bytes
 
@@ -104,16 +103,17 @@ module _ (area : List ℕ) (bytes : (i : ℕ) → getD area i 0 < 256) (c v w : 
         (take-byte 56 (2 ^ bits area) f (rest area t) (v * 2 ^ k % 2 ^ (bits area + 8)) (w * 2 ^ k % 2 ^ 64) (rw back moved) (omega arith)
         (getD area t 0) (rest area (t + 1)) (bytes t) (rest-step area t))
 
+-- d's state with another range and v, and one bool more
+abbrev counted : BoolDecoder → ℕ → ℕ → State
+counted d r v = record { v = v; r = r; c = d .doublings; n = d .bools + 1 }
+
 -- before the doublings: the bool b is read, the range is r, and w holds v
 pub record Chosen (area : List ℕ) (d : BoolDecoder) (p : ℕ) (b : Bool) (r v w : ℕ) : Type 0 where
-  pub is : readBool (bits area) p (stateOf area d) ≡ out b (normal 7 (bits area) (record { v = v; r = r; c = d .doublings; n = d .bools + 1 }))
+  pub is : readBool (bits area) p (stateOf area d) ≡ out b (normal 7 (bits area) (counted d r v))
   pub holds : Held area (d .doublings) v w
   pub high : r < 256
 
 module _ {area : List ℕ} {d : BoolDecoder} (O : Over area d) (p : ℕ) {s : ℕ} (is : s ≡ split (d .range) p) (lt : s < d .range) where
-  big : s * 2 ^ 56 % 2 ^ 64 ≡ s * 2 ^ 56
-  big = shl-exact {a = s} 8 56 64 (omega (arith, O .high)) (omega arith)
-
   abbrev v : ℕ
   v = vOf area (d .doublings) (d .value)
 
@@ -123,44 +123,57 @@ module _ {area : List ℕ} {d : BoolDecoder} (O : Over area d) (p : ℕ) {s : �
   below-one : x < 2 ^ bits area
   below-one = rest-lt area (d .doublings / 8 + 8) (O .bytes)
 
-  pub chosen-one : s * 2 ^ 56 % 2 ^ 64 ≤ d .value → Chosen area d p true (d .range - s) (v - s * 2 ^ bits area) (d .value - s * 2 ^ 56 % 2 ^ 64)
+  -- g is the split where the window has V's whole part
+  pub chosen-one : {g : ℕ} → g ≡ s * 2 ^ 56 → g ≤ d .value → Chosen area d p true (d .range - s) (v - s * 2 ^ bits area) (d .value - g)
   unfolding readBool chosen
-  chosen-one h =
-      let g : s * 2 ^ 56 ≤ d .value = rw big at h in
+  chosen-one {g} e h =
+      let k : s * 2 ^ 56 ≤ d .value = rw e at h in
       let t : leb (s * 2 ^ bits area) v ≡ true =
-      le-leb _ _ (one-is 56 (2 ^ bits area) (d .doublings % 8) x v (d .value) (O .holds) below-one s g) in
+      le-leb _ _ (one-is 56 (2 ^ bits area) (d .doublings % 8) x v (d .value) (O .holds) below-one s k) in
       record {
         is = rw (← is, t);
-        holds = rw big (less 56 (2 ^ bits area) (d .doublings % 8) x v (d .value) (O .holds) below-one s (omega arith) g);
+        holds = rw e (less 56 (2 ^ bits area) (d .doublings % 8) x v (d .value) (O .holds) below-one s (omega arith) k);
         high = omega (arith, O .high);
       }
 
-  pub chosen-zero : d .value < s * 2 ^ 56 % 2 ^ 64 → Chosen area d p false s v (d .value)
+  pub chosen-zero : {g : ℕ} → g ≡ s * 2 ^ 56 → d .value < g → Chosen area d p false s v (d .value)
   unfolding readBool chosen
-  chosen-zero h =
+  chosen-zero e h =
       let t : leb (s * 2 ^ bits area) v ≡ false =
-      lt-leb _ _ (zero-is 56 (2 ^ bits area) (d .doublings % 8) x v (d .value) (O .holds) below-one s (omega arith) (rw big at h)) in
+      lt-leb _ _ (zero-is 56 (2 ^ bits area) (d .doublings % 8) x v (d .value) (O .holds) below-one s (omega arith) (rw e at h)) in
       record { is = rw (← is, t); holds = O .holds; high = omega (arith, O .high) }
 
   -- a split of the limit or more is 128 or more, and above the window
-  pub limit-is : d .limit ≤ s → (128 ≤ s) × (d .value < s * 2 ^ 56 % 2 ^ 64)
+  pub limit-is : d .limit ≤ s → (128 ≤ s) × (d .value < s * 2 ^ 56)
   limit-is h = (
     omega (arith, O .limit, limit-low (d .value)),
-    rw big (omega (arith, O .limit, limit-above (d .value), mul-le-mul-right (2 ^ 56) h)),
+    omega (arith, O .limit, limit-above (d .value), mul-le-mul-right (2 ^ 56) h),
   )
-
--- one bool, counted
-abbrev counted : BoolDecoder → ℕ → ℕ → State
-counted d r v = record { v = v; r = r; c = d .doublings; n = d .bools + 1 }
 
 module _ {area : List ℕ} {d : BoolDecoder} (G : Good area d 1) {p : ℕ} {b : Bool} {r v w : ℕ} (C : Chosen area d p b r v w) where
   -- the window that fill is handed holds what it makes
   pub holds-v : Held area (d .doublings) (vOf area (d .doublings) w) w
   holds-v = held-is area (d .doublings) v w (C .holds)
 
-  lands : (d' : BoolDecoder) → stateOf area d' ≡ normal 7 (bits area) (counted d r v) → Over area d' → d' .bools ≡ d .bools + 1 → Ran (bool p) area d b d' 1
+  -- the doublings end in this range and this v, which w' holds
+  lands : (c' v' : ℕ) {r' l' w' : ℕ} → normal 7 (bits area) (counted d r v) ≡ record { v = v'; r = r'; c = c'; n = d .bools + 1 }
+      → Held area c' v' w' → 128 ≤ r' → r' < 256 → c' ≤ d .doublings + 7 → l' ≡ limitOf w'
+      → Ran (bool p) area d b (record { range = r'; limit = l'; value = w'; doublings = c'; bools = d .bools + 1 }) 1
   unfolding run bool
-  lands d' e o n = record { is = C .is ∙ ap (out b) (sym e); over = o; most = omega (arith, n) }
+  lands c' v' {r'} {l'} {w'} e H lo hi few limit = record {
+    is = C .is ∙ ap (out b) (e ∙ (λ i. record { v = sym (value-is area c' v' w' H) i; r = r'; c = c'; n = d .bools + 1 }));
+    over =
+        record {
+          bytes = G .over .bytes;
+          holds = held-is area c' v' w' H;
+          low = lo;
+          high = hi;
+          limit = limit;
+          few = omega (arith, G .over .few);
+          count = omega (arith, G .room);
+        };
+    most = omega arith;
+  }
 
   -- k doublings, to the range r' and the window w'
   pub doubled : (k : ℕ) {r' l' w' : ℕ} → 128 ≤ r * 2 ^ k → r * 2 ^ k < 256 → k ≤ 7 → r' ≡ r * 2 ^ k → l' ≡ limitOf w'
@@ -168,35 +181,15 @@ module _ {area : List ℕ} {d : BoolDecoder} (G : Good area d 1) {p : ℕ} {b : 
       → Ran (bool p) area d b (record { range = r'; limit = l'; value = w'; doublings = d .doublings + k; bools = d .bools + 1 }) 1
   doubled k {r'} {l'} {w'} lo hi le is limit H =
       let v' : ℕ = v * 2 ^ k % 2 ^ (bits area + 8) in
-      let H' : Held area (d .doublings + k) v' w' = rw (value-is area (d .doublings) v w (C .holds)) at H in
-      let n : normal 7 (bits area) (counted d r v) ≡ shifted (bits area) k (counted d r v) =
-      normal-is 7 (bits area) k (counted d r v) le lo hi (v-small area (G .over .bytes) (d .doublings) v w (C .holds)) in
-      lands (record { range = r'; limit = l'; value = w'; doublings = d .doublings + k; bools = d .bools + 1 })
-      ((λ i. record { v = value-is area (d .doublings + k) v' w' H' i; r = is i; c = d .doublings + k; n = d .bools + 1 }) ∙ sym n)
-      (record {
-        bytes = G .over .bytes;
-        holds = held-is area (d .doublings + k) v' w' H';
-        low = rw is lo;
-        high = rw is hi;
-        limit = limit;
-        few = omega (arith, G .over .few);
-        count = omega (arith, G .room);
-      })
-      refl
+      let small = v-small area (G .over .bytes) (d .doublings) v w (C .holds) in
+      lands (d .doublings + k) v'
+      (normal-is 7 (bits area) k (counted d r v) le lo hi small
+      ∙ (λ i. record { v = v'; r = sym is i; c = d .doublings + k; n = d .bools + 1 }))
+      (rw (value-is area (d .doublings) v w (C .holds)) at H)
+      (rw is lo) (rw is hi) (omega arith) limit
 
   -- no doubling
-  pub as-it-is : 128 ≤ r → {l' : ℕ} → l' ≡ limitOf w → Ran (bool p) area d b (record { range = r; limit = l'; value = w; doublings = d .doublings; bools = d .bools + 1 }) 1
-  as-it-is lo {l'} limit =
-      lands (record { range = r; limit = l'; value = w; doublings = d .doublings; bools = d .bools + 1 })
-      ((λ i. record { v = value-is area (d .doublings) v w (C .holds) i; r = r; c = d .doublings; n = d .bools + 1 })
-      ∙ sym (normal-high 7 (bits area) (counted d r v) lo))
-      (record {
-        bytes = G .over .bytes;
-        holds = holds-v;
-        low = lo;
-        high = C .high;
-        limit = limit;
-        few = omega (arith, G .over .few);
-        count = omega (arith, G .room);
-      })
-      refl
+  pub as-it-is : 128 ≤ r → {l' : ℕ} → l' ≡ limitOf w
+      → Ran (bool p) area d b (record { range = r; limit = l'; value = w; doublings = d .doublings; bools = d .bools + 1 }) 1
+  as-it-is lo limit =
+      lands (d .doublings) v (normal-high 7 (bits area) (counted d r v) lo) (C .holds) lo (C .high) (omega arith) limit

@@ -10,9 +10,9 @@ use native.Mathlib.Omega.{arith}
 use lib.Pow.{pow-pos}
 use Rattle.rfc6386.specs.Decoder.{State, Out, bits, position}
 use Rattle.rfc6386.specs.Reads.{Rd}
-use Rattle.bool_decoder.specs.Window.{rest, vOf, stateOf, limitOf, Over}
+use Rattle.bool_decoder.specs.Window.{rest, stateOf, limitOf, Over}
 use Rattle.bool_decoder.specs.Model.{Ran, Lit, Sgn, Fresh, Seen}
-use Rattle.bool_decoder.specs.Answer.{refusal, Allows, Refuses, BoolMeets, UintMeets, SintMeets}
+use Rattle.bool_decoder.specs.Answer.{Allows, Refuses, BoolMeets, UintMeets, SintMeets}
 use Rattle.bool_decoder.specs.declared.BoolDecoder.{BoolDecoder}
 use Rattle.bool_decoder.specs.declared.BoolDecoderState.{BoolDecoderState}
 use Rattle.bool_decoder.specs.declared.Bit.{Bit}
@@ -98,22 +98,22 @@ torn : {A X : Type 0} {m : Rd A} {area : List ℕ} {d : BoolDecoder} {w k : ℕ}
 torn p q = absurd (omega (arith, p .free, q .is, q .some))
 
 -- read_bool and read_bool_with_prob
-pub same-bool : (area : List ℕ) (d : BoolDecoder) (p : ℕ) (r q : BoolAnswer) → BoolMeets area d p r → BoolMeets area d p q → r ≡ q
-same-bool area d p (B.Read r) (B.Read q) x y = ap B.Read (same-bit (x .ran) (y .ran))
-same-bool area d p (B.Read r) (B.Refused n) x y = torn x y
-same-bool area d p (B.Refused n) (B.Read q) x y = torn y x
-same-bool area d p (B.Refused n) (B.Refused k) x y = ap B.Refused (x .is ∙ sym (y .is))
+pub same-bool-answer : (area : List ℕ) (d : BoolDecoder) (p : ℕ) (r q : BoolAnswer) → BoolMeets area d p r → BoolMeets area d p q → r ≡ q
+same-bool-answer area d p (B.Read r) (B.Read q) x y = ap B.Read (same-bit (x .ran) (y .ran))
+same-bool-answer area d p (B.Read r) (B.Refused n) x y = torn x y
+same-bool-answer area d p (B.Refused n) (B.Read q) x y = torn y x
+same-bool-answer area d p (B.Refused n) (B.Refused k) x y = ap B.Refused (x .is ∙ sym (y .is))
 
 -- read_uint
-pub same-unsigned : (area : List ℕ) (d : BoolDecoder) (w : ℕ) (r q : UintAnswer) → UintMeets area d w r → UintMeets area d w q → r ≡ q
-same-unsigned area d w (U.Read r) (U.Read q) x y = ap U.Read (same-uint (x .ran) (y .ran))
-same-unsigned area d w (U.Read r) (U.Refused n) x y = torn x y
-same-unsigned area d w (U.Refused n) (U.Read q) x y = torn y x
-same-unsigned area d w (U.Refused n) (U.Refused k) x y = ap U.Refused (x .is ∙ sym (y .is))
+pub same-uint-answer : (area : List ℕ) (d : BoolDecoder) (w : ℕ) (r q : UintAnswer) → UintMeets area d w r → UintMeets area d w q → r ≡ q
+same-uint-answer area d w (U.Read r) (U.Read q) x y = ap U.Read (same-uint (x .ran) (y .ran))
+same-uint-answer area d w (U.Read r) (U.Refused n) x y = torn x y
+same-uint-answer area d w (U.Refused n) (U.Read q) x y = torn y x
+same-uint-answer area d w (U.Refused n) (U.Refused k) x y = ap U.Refused (x .is ∙ sym (y .is))
 
 -- read_sint
-pub same-int : (area : List ℕ) (d : BoolDecoder) (w : ℕ) (r q : SintAnswer) → SintMeets area d w r → SintMeets area d w q → r ≡ q
-same-int area d w (S.Read r) (S.Read q) x y = ap S.Read (same-sint (x .ran) (y .ran))
-same-int area d w (S.Read r) (S.Refused n) x y = torn x y
-same-int area d w (S.Refused n) (S.Read q) x y = torn y x
-same-int area d w (S.Refused n) (S.Refused k) x y = ap S.Refused (x .is ∙ sym (y .is))
+pub same-sint-answer : (area : List ℕ) (d : BoolDecoder) (w : ℕ) (r q : SintAnswer) → SintMeets area d w r → SintMeets area d w q → r ≡ q
+same-sint-answer area d w (S.Read r) (S.Read q) x y = ap S.Read (same-sint (x .ran) (y .ran))
+same-sint-answer area d w (S.Read r) (S.Refused n) x y = torn x y
+same-sint-answer area d w (S.Refused n) (S.Read q) x y = torn y x
+same-sint-answer area d w (S.Refused n) (S.Refused k) x y = ap S.Refused (x .is ∙ sym (y .is))

@@ -18,7 +18,7 @@ use Rattle.bool_decoder.specs.declared.SintAnswer.the-variants as S
 abbrev pub refusal : List ℕ → BoolDecoder → ℕ → ℕ → ℕ
 refusal area d width wanted = refusalOf (length area) width wanted (d .bools)
 
--- the read m is refused, by this number; the caller still has d
+-- the read is refused by this number; the caller still has d
 pub record Refuses (area : List ℕ) (d : BoolDecoder) (width wanted number : ℕ) : Type 0 where
   pub is : number ≡ refusal area d width wanted
   pub some : 0 < number

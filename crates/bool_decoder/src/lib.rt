@@ -4,8 +4,7 @@
 use bitstream_utils::byte_at;
 ghost use mathlib.Core.Path.{_≡_};
 ghost use Prim.Native.Nat.{_+_, _-_, _*_, _%_, _^_, _<_, _≤_};
-ghost use lib.ListN.{length};
-ghost use Rattle.rfc6386.specs.Decoder.{bits, split, refusalOf, position};
+ghost use Rattle.rfc6386.specs.Decoder.{bits, split, pick, refusalOf, position};
 ghost use Rattle.rfc6386.specs.Reads.{bool, flag, bit, signed};
 ghost use Rattle.bool_decoder.specs.Window.{Held, vOf, stateOf, limitOf, Over};
 ghost use Rattle.bool_decoder.specs.Model.{Good, Ran, Lit, Sgn, Fresh, Seen};
@@ -346,6 +345,14 @@ fn half_of(range: u32) -> u32
     (range + 1) / 2
 }
 
+// The split where the window has V's whole part.
+fn bigsplit(split: u32) -> u64
+    requires { ⌜ split < 256 ⌝ }
+    ensures { λ r. ⌜ r ≡ split * 2 ^ 56 ⌝ }
+{
+    (split as u64) << 56
+}
+
 fn limit_of(value: u64) -> u32
     ensures { λ r. ⌜ r ≡ limitOf value ⌝ }
 {
@@ -381,27 +388,26 @@ fn signed_of(magnitude: u32, sign: bool) -> i32
     if sign { -value } else { value }
 }
 
-// The number of the refusal, or 0. A signed literal wants one bool beside its width.
+// This number where the test holds, and else the next.
+fn refuse_if(test: bool, number: u32, next: u32) -> u32
+    ensures { λ r. ⌜ r ≡ pick test number next ⌝ }
+{
+    if test { number } else { next }
+}
+
+// The number of the refusal, or 0: a later line goes before an earlier one, so 6, 7, 4, 8. A signed literal wants one bool beside its width.
 fn refusal(size: usize, width: u32, extra: u32, bools: u32) -> u32
-    requires { ⌜ (extra ≤ 1) × (bools ≤ 16777216) ⌝ }
     ensures { λ r. ⌜ r ≡ refusalOf size width (width + extra) bools ⌝ }
 {
-    if BoolDecoder::AREA_LIMIT <= size {
-        return 6;
-    }
-    if BoolDecoder::WIDEST < width {
-        return 7;
-    }
-    let wanted = width + extra;
-    if size == 0 {
-        if 0 < wanted {
-            return 4;
-        }
-    }
-    if BoolDecoder::MOST_BOOLS < bools + wanted {
-        return 8;
-    }
-    0
+    let wanted = (width as u64) + (extra as u64);
+    let room = refuse_if(
+        (BoolDecoder::MOST_BOOLS as u64) < (bools as u64) + wanted,
+        8,
+        0,
+    );
+    let some = refuse_if(size == 0, refuse_if(0 < wanted, 4, room), room);
+    let narrow = refuse_if(BoolDecoder::WIDEST < width, 7, some);
+    refuse_if(BoolDecoder::AREA_LIMIT <= size, 6, narrow)
 }
 
 impl BoolDecoder {
@@ -448,7 +454,7 @@ impl BoolDecoder {
                 },
             };
         }
-        let big = (split as u64) << 56;
+        let big = bigsplit(split);
         if big <= self.value {
             let range = self.range - split;
             let shift = norm(range);
@@ -485,7 +491,7 @@ impl BoolDecoder {
         ensures { λ r. ⌜ Ran flag (now (area .entry)) self (r .bit) (r .dec) 1 ⌝ }
     {
         let split = half_of(self.range);
-        let big = (split as u64) << 56;
+        let big = bigsplit(split);
         if big <= self.value {
             let value = fill(area, self.value - big, self.doublings, 1);
             Bit {

@@ -13,9 +13,11 @@ shl-moved c = search needs
 
 returns : tie.Need-returns
 returns c =
-    let s = c .before .before in
-    let a = s .args in
-    kept (a .area .now) (λ i. c .before .shared-slice-known .given i .fits) (a .doublings) (vOf (a .area .now) (a .doublings) (a .value)) (a .value) (s .pre .0) (a .shift) (s .pre .2) (c .if1 .taken)
+    let start = c .before .before in
+    let a = start .args in
+    let v = vOf (a .area .now) (a .doublings) (a .value) in
+    let bytes = c .before .shared-slice-known .given in
+    kept (a .area .now) (λ i. bytes i .fits) (a .doublings) v (a .value) (start .pre .0) (a .shift) (start .pre .2) (c .if1 .taken)
 
 add-byte-at : tie.Need-add-byte-at
 add-byte-at c = search needs
@@ -38,17 +40,17 @@ cast-result c = search needs
 shl-result : tie.Need-shl-result
 shl-result c = search needs
 
-add-result : tie.Need-add-result
-add-result c =
-    let s = c .before .before .before in
-    let a = s .args in
-    record { fits = byte-in (a .area .now) (λ i. c .before .before .shared-slice-known .given i .fits) (a .doublings) (vOf (a .area .now) (a .doublings) (a .value)) (a .value) (s .pre .0) (a .shift) (s .pre .2) (c .byte-at .result) (c .byte-at .ensures) (c .before .if1 .left) .small }
-
 returns-2 : tie.Need-returns-2
 returns-2 c =
-    let s = c .before .before .before in
-    let a = s .args in
-    byte-in (a .area .now) (λ i. c .before .before .shared-slice-known .given i .fits) (a .doublings) (vOf (a .area .now) (a .doublings) (a .value)) (a .value) (s .pre .0) (a .shift) (s .pre .2) (c .byte-at .result) (c .byte-at .ensures) (c .before .if1 .left)
+    let start = c .before .before .before in
+    let a = start .args in
+    let v = vOf (a .area .now) (a .doublings) (a .value) in
+    let bytes = c .before .before .shared-slice-known .given in
+    byte-in (a .area .now) (λ i. bytes i .fits) (a .doublings) v (a .value) (start .pre .0) (a .shift) (start .pre .2)
+    (c .byte-at .result) (c .byte-at .ensures) (c .before .if1 .left)
+
+add-result : tie.Need-add-result
+add-result c = record { fits = returns-2 c .small }
 
 pub fill-spec : {M : Type 1} → statement M
 fill-spec =

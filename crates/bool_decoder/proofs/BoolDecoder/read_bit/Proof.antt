@@ -1,4 +1,5 @@
 -- The bool is chosen by the limit or by the window; then come no doublings, or those of norm and fill. Assumes nothing.
+use mathlib.Core.Path.{refl}
 use native.Mathlib.Nat.{mod-eq-of-lt}
 use native.Mathlib.Omega.{arith}
 use Rattle.bool_decoder.proofs.Over.{chosen-one, chosen-zero, limit-is, holds-v, doubled, as-it-is}
@@ -18,10 +19,10 @@ returns c =
     let s = c .before .before .before .split-of .ensures in
     let p = start .args .probability in
     let q = limit-is (start .pre .over) p (s .0) (s .2) (c .before .if1 .taken) in
-    as-it-is (start .pre) (chosen-zero (start .pre .over) p (s .0) (s .2) (q .1)) (q .0) (start .pre .over .limit)
+    as-it-is (start .pre) (chosen-zero (start .pre .over) p (s .0) (s .2) refl (q .1)) (q .0) (start .pre .over .limit)
 
-cast-big : tie.Need-cast-big
-cast-big c = search needs
+bigsplit-requires : tie.Need-bigsplit-requires
+bigsplit-requires c κs = search needs
 
 sub-range : tie.Need-sub-range
 sub-range c = search needs
@@ -31,24 +32,23 @@ norm-requires c κs = search needs
 
 fill-requires : tie.Need-fill-requires
 fill-requires c κs =
-    let start = c .before .before .before .before .before .before .before .before .before in
-    let s = c .before .before .before .before .before .before .before .split-of .ensures in (
-      holds-v (start .pre) (chosen-one (start .pre .over) (start .args .probability) (s .0) (s .2) (c .before .before .before .if2 .taken)),
-      omega (arith, start .pre .over .few, start .pre .over .count),
-      c .before .norm .ensures .2,
-    )
+    let start = c .before .before .before .before .before .before .before .before .before .before in
+    let s = c .before .before .before .before .before .before .before .before .split-of .ensures in
+    let big = c .before .before .before .before .before .bigsplit .ensures in
+    let chosen = chosen-one (start .pre .over) (start .args .probability) (s .0) (s .2) big (c .before .before .before .if2 .taken) in
+    (holds-v (start .pre) chosen, omega (arith, start .pre .over .few, start .pre .over .count), c .before .norm .ensures .2)
 
-shl-t17 : tie.Need-shl-t17
-shl-t17 c = search needs
+shl-t16 : tie.Need-shl-t16
+shl-t16 c = search needs
 
 limit-of-requires : tie.Need-limit-of-requires
 limit-of-requires c κs = search needs
 
+add-t18 : tie.Need-add-t18
+add-t18 c = search needs
+
 add-t19 : tie.Need-add-t19
 add-t19 c = search needs
-
-add-t20 : tie.Need-add-t20
-add-t20 c = search needs
 
 norm-requires-2 : tie.Need-norm-requires-2
 norm-requires-2 c κs = search needs
@@ -56,33 +56,35 @@ norm-requires-2 c κs = search needs
 fill-requires-2 : tie.Need-fill-requires-2
 fill-requires-2 c κs = search needs
 
-shl-t22 : tie.Need-shl-t22
-shl-t22 c = search needs
+shl-t21 : tie.Need-shl-t21
+shl-t21 c = search needs
 
 limit-of-requires-2 : tie.Need-limit-of-requires-2
 limit-of-requires-2 c κs = search needs
 
+add-t23 : tie.Need-add-t23
+add-t23 c = search needs
+
 add-t24 : tie.Need-add-t24
 add-t24 c = search needs
 
-add-t25 : tie.Need-add-t25
-add-t25 c = search needs
-
 returns-2 : tie.Need-returns-2
 returns-2 c =
-    let start = c .before .before .before .before .before .before .before .before .before .before .before .before .before in
-    let s = c .before .before .before .before .before .before .before .before .before .before .before .split-of .ensures in
+    let start = c .before .before .before .before .before .before .before .before .before .before .before .before .before .before in
+    let s = c .before .before .before .before .before .before .before .before .before .before .before .before .split-of .ensures in
+    let big = c .before .before .before .before .before .before .before .before .before .bigsplit .ensures in
     let n = c .before .before .before .before .before .norm in
-    let chosen = chosen-one (start .pre .over) (start .args .probability) (s .0) (s .2) (c .before .before .before .before .before .before .before .if2 .taken) in
+    let chosen = chosen-one (start .pre .over) (start .args .probability) (s .0) (s .2) big (c .before .before .before .before .before .before .before .if2 .taken) in
     doubled (start .pre) chosen (n .result) (n .ensures .0) (n .ensures .1) (n .ensures .2)
     (mod-eq-of-lt (omega (arith, n .ensures .1))) (c .before .before .limit-of .ensures) (c .before .before .before .fill .ensures)
 
 returns-3 : tie.Need-returns-3
 returns-3 c =
-    let start = c .before .before .before .before .before .before .before .before .before .before .before in
-    let s = c .before .before .before .before .before .before .before .before .before .split-of .ensures in
+    let start = c .before .before .before .before .before .before .before .before .before .before .before .before in
+    let s = c .before .before .before .before .before .before .before .before .before .before .split-of .ensures in
+    let big = c .before .before .before .before .before .before .before .bigsplit .ensures in
     let n = c .before .before .before .before .norm2 in
-    let chosen = chosen-zero (start .pre .over) (start .args .probability) (s .0) (s .2) (c .before .before .before .before .before .if2 .left) in
+    let chosen = chosen-zero (start .pre .over) (start .args .probability) (s .0) (s .2) big (c .before .before .before .before .before .if2 .left) in
     doubled (start .pre) chosen (n .result) (n .ensures .0) (n .ensures .1) (n .ensures .2)
     (mod-eq-of-lt (omega (arith, n .ensures .1))) (c .before .before .limit-of2 .ensures) (c .before .before .before .fill2 .ensures)
 
@@ -93,19 +95,19 @@ read-bit-spec =
     split-of-requires
     add-t12
     returns
-    cast-big
+    bigsplit-requires
     sub-range
     norm-requires
     fill-requires
-    shl-t17
+    shl-t16
     limit-of-requires
+    add-t18
     add-t19
-    add-t20
     norm-requires-2
     fill-requires-2
-    shl-t22
+    shl-t21
     limit-of-requires-2
+    add-t23
     add-t24
-    add-t25
     returns-2
     returns-3)

@@ -11,74 +11,76 @@ use Rattle.bool_decoder.proofs.BoolDecoder.read_flag.Tie as tie
 half-of-requires : tie.Need-half-of-requires
 half-of-requires c κs = search needs
 
-cast-big : tie.Need-cast-big
-cast-big c = search needs
+bigsplit-requires : tie.Need-bigsplit-requires
+bigsplit-requires c κs = search needs
 
 fill-requires : tie.Need-fill-requires
 fill-requires c κs =
-    let start = c .before .before .before .before .before in
-    let s = c .before .before .before .half-of .ensures in (
-      holds-v (start .pre) (chosen-one (start .pre .over) 128 (s .0) (omega (arith, s .3)) (c .before .if1 .taken)),
-      omega (arith, start .pre .over .few, start .pre .over .count),
-      lit≤ tt,
-    )
+    let start = c .before .before .before .before .before .before in
+    let s = c .before .before .before .before .half-of .ensures in
+    let big = c .before .before .before .bigsplit .ensures in
+    let chosen = chosen-one (start .pre .over) 128 (s .0) (omega (arith, s .3)) big (c .before .if1 .taken) in
+    (holds-v (start .pre) chosen, omega (arith, start .pre .over .few, start .pre .over .count), lit≤ tt)
 
-sub-t11 : tie.Need-sub-t11
-sub-t11 c = search needs
+sub-t10 : tie.Need-sub-t10
+sub-t10 c = search needs
 
-mul-t12 : tie.Need-mul-t12
-mul-t12 c = search needs
+mul-t11 : tie.Need-mul-t11
+mul-t11 c = search needs
 
 limit-of-requires : tie.Need-limit-of-requires
 limit-of-requires c κs = search needs
 
+add-t13 : tie.Need-add-t13
+add-t13 c = search needs
+
 add-t14 : tie.Need-add-t14
 add-t14 c = search needs
 
-add-t15 : tie.Need-add-t15
-add-t15 c = search needs
-
-add-t18 : tie.Need-add-t18
-add-t18 c = search needs
+add-t17 : tie.Need-add-t17
+add-t17 c = search needs
 
 returns : tie.Need-returns
 unfolding flag
 returns c =
-    let start = c .before .before .before .before .before .before in
-    let s = c .before .before .before .before .half-of .ensures in
-    let chosen = chosen-zero (start .pre .over) 128 (s .0) (omega (arith, s .3)) (c .before .before .if1 .left) in
+    let start = c .before .before .before .before .before .before .before in
+    let s = c .before .before .before .before .before .half-of .ensures in
+    let big = c .before .before .before .before .bigsplit .ensures in
+    let chosen = chosen-zero (start .pre .over) 128 (s .0) (omega (arith, s .3)) big (c .before .before .if1 .left) in
     as-it-is (start .pre) chosen (c .before .if2 .taken) (start .pre .over .limit)
 
 fill-requires-2 : tie.Need-fill-requires-2
 fill-requires-2 c κs = search needs
 
-mul-t20 : tie.Need-mul-t20
-mul-t20 c = search needs
+mul-t19 : tie.Need-mul-t19
+mul-t19 c = search needs
 
 limit-of-requires-2 : tie.Need-limit-of-requires-2
 limit-of-requires-2 c κs = search needs
 
+add-t21 : tie.Need-add-t21
+add-t21 c = search needs
+
 add-t22 : tie.Need-add-t22
 add-t22 c = search needs
-
-add-t23 : tie.Need-add-t23
-add-t23 c = search needs
 
 returns-2 : tie.Need-returns-2
 unfolding flag
 returns-2 c =
-    let start = c .before .before .before .before .before .before .before .before .before .before in
-    let s = c .before .before .before .before .before .before .before .before .half-of .ensures in
-    let chosen = chosen-one (start .pre .over) 128 (s .0) (omega (arith, s .3)) (c .before .before .before .before .before .before .if1 .taken) in
+    let start = c .before .before .before .before .before .before .before .before .before .before .before in
+    let s = c .before .before .before .before .before .before .before .before .before .half-of .ensures in
+    let big = c .before .before .before .before .before .before .before .before .bigsplit .ensures in
+    let chosen = chosen-one (start .pre .over) 128 (s .0) (omega (arith, s .3)) big (c .before .before .before .before .before .before .if1 .taken) in
     doubled (start .pre) chosen 1 (omega (arith, s .3)) (omega (arith, s .4)) (lit≤ tt) refl (c .before .before .limit-of .ensures)
     (c .before .before .before .before .fill .ensures)
 
 returns-3 : tie.Need-returns-3
 unfolding flag
 returns-3 c =
-    let start = c .before .before .before .before .before .before .before .before .before in
-    let s = c .before .before .before .before .before .before .before .half-of .ensures in
-    let chosen = chosen-zero (start .pre .over) 128 (s .0) (omega (arith, s .3)) (c .before .before .before .before .before .if1 .left) in
+    let start = c .before .before .before .before .before .before .before .before .before .before in
+    let s = c .before .before .before .before .before .before .before .before .half-of .ensures in
+    let big = c .before .before .before .before .before .before .before .bigsplit .ensures in
+    let chosen = chosen-zero (start .pre .over) 128 (s .0) (omega (arith, s .3)) big (c .before .before .before .before .before .if1 .left) in
     doubled (start .pre) chosen 1 (omega (arith, s .1)) (omega (arith, c .before .before .before .before .if2 .left)) (lit≤ tt) refl
     (c .before .before .limit-of2 .ensures) (c .before .before .before .fill2 .ensures)
 
@@ -87,19 +89,19 @@ read-flag-spec =
     tie.close
     (tie.spec
     half-of-requires
-    cast-big
+    bigsplit-requires
     fill-requires
-    sub-t11
-    mul-t12
+    sub-t10
+    mul-t11
     limit-of-requires
+    add-t13
     add-t14
-    add-t15
-    add-t18
+    add-t17
     returns
     fill-requires-2
-    mul-t20
+    mul-t19
     limit-of-requires-2
+    add-t21
     add-t22
-    add-t23
     returns-2
     returns-3)
