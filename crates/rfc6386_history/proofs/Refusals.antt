@@ -2,10 +2,12 @@
 -- leaves and its exact cause are then read off the table. Assumes nothing.
 use Prim.Native.Nat.{ℕ, _+_, _-_, _*_, _%_, _^_, _<_}
 use native.Mathlib.Omega.{arith}
+use mathlib.Core.Logic.{_↔_}
 use mathlib.Core.Path.{_≡_, refl, sym, ap, _∙_}
 use mathlib.Core.Bool.{Bool, true, false, not, _&&_, _||_}
+use mathlib.Core.Option.{none, some}
 use mathlib.Core.List.{List, [], _∷_, map}
-use lib.Dec.{leb, ltb, eqb}
+use lib.Dec.{ltb, eqb, lit<}
 use lib.ListN.{length, drop, getD}
 use borrow.Author.Tests.{eqb-true, eq-eqb}
 use Rattle.vp8_records.specs.declared.Parser.{Parser}
@@ -19,9 +21,9 @@ use Rattle.rfc6386.specs.Bytes.{le2, le3}
 use Rattle.rfc6386.specs.Decoder.{Out, bits, start, pick}
 use Rattle.rfc6386.specs.Reads.{run}
 use Rattle.rfc6386.specs.Coded.{Coded, header}
-use Rattle.rfc6386.specs.Frame.{Chunk, tagged, shut, opened, keyChunk, chunk, codedSizes, sum, sizes, beyond, empty, read, headed, body, follows, inside, decode}
+use Rattle.rfc6386.specs.Frame.{Chunk, tagged, shut, opened, keyChunk, chunk, Snapshot, codedSizes, sum, sizes, beyond, empty, read, headed, body, follows, inside, decode}
 use Rattle.rfc6386.specs.Call.{apply, cleared, answer, finish, call}
-use Rattle.rfc6386_history.specs.Refusals.{keyOf, rightCode, tooLong, tooShort, otherCode, chunkSize, area, firstSize, beyondEnd, isEmpty, coded, partitions, sizesEnd, codedOf, sizesBeyond, afterChunk, outcomeOf, left}
+use Rattle.rfc6386_history.specs.Refusals.{keyOf, rightCode, tooLong, tooShort, otherCode, chunkSize, area, firstSize, beyondEnd, isEmpty, coded, partitions, sizesEnd, codedOf, sizesBeyond, afterChunk, outcomeOf, left, Exactly}
 
 -- a refusal's header is the blank one
 abbrev Blank : Outcome → Header → Type 0
@@ -39,16 +41,175 @@ pub record Told (a : Parsed) (o : Outcome) (key : Bool) (c : Coded) (p : Parser)
   pub state : a .parser ≡ left o key c p
   pub head : Blank o (a .header)
 
-module _ (p : Parser) (f : List ℕ) where
-  -- what follows the chunk
-  told-after : (key : Bool) (w h : ℕ)
-      → let k = tagged (le3 f 0) key (chunkSize key) w h in Told (finish (follows k (body k f)) p) (afterChunk key f) key (coded key f) p
-  unfolding body headed sizes coded
-  told-after key w h =
-      go (beyondEnd key f) (area key f) refl
+module _ (p : Parser) where
+  -- a header read to its end
+  told-read : (k : Chunk) (c : Coded) (s : Snapshot) (n : ℕ) (xs : List ℕ) (first : ℕ)
+      → let from = first + 3 * (n - 1) in
+      let beyond = ltb (length xs) from || ltb (length xs) (from + sum (codedSizes (n - 1) xs first)) in
+      Told (finish (follows k (read c s (sizes n xs first))) p) (pick beyond EndOfHeader Accepted) (k .key) c p
+  unfolding sizes
+  told-read k c s n xs first = go (ltb (length xs) _) (ltb (length xs) _) _
     where
-      k : Chunk
-      k = tagged (le3 f 0) key (chunkSize key) w h
+      go : (a b : Bool) (ss : List ℕ)
+          → Told (finish (follows k (read c s (elim a [ true ↦ none | false ↦ elim b [ true ↦ none | false ↦ some ss ] ]))) p)
+          (pick (a || b) EndOfHeader Accepted) (k .key) c p
+      go true b ss = record { outcome = refl; state = refl; head = refl }
+      go false true ss = record { outcome = refl; state = refl; head = refl }
+      go false false ss = record { outcome = refl; state = refl; head = tt }
 
-      go : (a : Bool) (xs : List ℕ) → area key f ≡ xs → ?
-      go = ?
+  -- what follows the chunk
+  module _ (f : List ℕ) where
+    told-after : (key : Bool) (w h : ℕ)
+        → let k = tagged (le3 f 0) key (chunkSize key) w h in Told (finish (follows k (body k f)) p) (afterChunk key f) key (coded key f) p
+    unfolding body headed coded
+    told-after key w h = go (beyondEnd key f) (area key f)
+      where
+        k : Chunk
+        k = tagged (le3 f 0) key (chunkSize key) w h
+
+        got : List ℕ → Coded
+        got xs = run (header key) (bits xs) (start xs) .got
+
+        beyondIn : List ℕ → Bool
+        beyondIn xs =
+            let n = 2 ^ got xs .log2parts in
+            let from = firstSize f + 3 * (n - 1) in
+            ltb (length xs) from || ltb (length xs) (from + sum (codedSizes (n - 1) xs (firstSize f)))
+
+        go : (a : Bool) (xs : List ℕ)
+            → Told
+            (finish
+            (follows k
+            (elim a [
+              | true ↦ beyond (chunkSize key + firstSize f) (length f)
+              | false ↦ elim xs [ [] ↦ empty | b ∷ bs ↦ headed k (b ∷ bs) (run (header key) (bits (b ∷ bs)) (start (b ∷ bs))) ]
+            ]))
+            p)
+            (pick a (InvalidPartitionSize (chunkSize key + firstSize f) (length f)) (pick (isEmpty xs) EmptyArea (pick (beyondIn xs) EndOfHeader Accepted)))
+            key (got xs) p
+        go true xs = record { outcome = refl; state = refl; head = refl }
+        go false [] = record { outcome = refl; state = refl; head = refl }
+        go false (b ∷ bs) = told-read k (got (b ∷ bs)) _ (2 ^ got (b ∷ bs) .log2parts) (b ∷ bs) (firstSize f)
+
+    -- every call
+    pub told : Told (call p f) (outcomeOf f) (keyOf f) (coded (keyOf f) f) p
+    unfolding call decode chunk keyChunk outcomeOf
+    told = go (tooLong f) (ltb (length f) 3) (keyOf f) (ltb (length f) 6) (rightCode f) (ltb (length f) 10)
+      where
+        go : (a b key d e g : Bool)
+            → Told
+            (finish
+            (inside
+            (elim a [
+              | true ↦ shut (FrameTooLong (length f))
+              | false ↦ elim b [
+                | true ↦ shut ChunkTooShort
+                | false ↦ elim key [
+                  | true ↦ elim d [
+                    | true ↦ shut ChunkTooShort
+                    | false ↦ elim e [
+                      | false ↦ shut (InvalidStartCode (le3 f 3))
+                      | true ↦ elim g [ true ↦ shut ChunkTooShort | false ↦ opened (tagged (le3 f 0) true 10 (le2 f 6) (le2 f 8)) ]
+                    ]
+                  ]
+                  | false ↦ opened (tagged (le3 f 0) false 3 0 0)
+                ]
+              ]
+            ])
+            f)
+            p)
+            (pick a (FrameTooLong (length f))
+            (pick (b || key && (d || e && g)) ChunkTooShort (pick (key && not d && not e) (InvalidStartCode (le3 f 3)) (afterChunk key f))))
+            key (coded key f) p
+        go true b key d e g = record { outcome = refl; state = refl; head = refl }
+        go false true key d e g = record { outcome = refl; state = refl; head = refl }
+        go false false false d e g = told-after false 0 0
+        go false false true true e g = record { outcome = refl; state = refl; head = refl }
+        go false false true false false g = record { outcome = refl; state = refl; head = refl }
+        go false false true false true true = record { outcome = refl; state = refl; head = refl }
+        go false false true false true false = told-after true (le2 f 6) (le2 f 8)
+
+blank-of : (o : Outcome) (h : Header) → 0 < numberOf o → Blank o h → h ≡ blank
+blank-of Accepted h n b = absurd (omega arith)
+blank-of ChunkTooShort h n b = b
+blank-of (InvalidStartCode code) h n b = b
+blank-of (InvalidPartitionSize end m) h n b = b
+blank-of EmptyArea h n b = b
+blank-of EndOfHeader h n b = b
+blank-of (FrameTooLong m) h n b = b
+
+-- which of the seven numbers it is, by the causes in order
+marks : (n z x y : ℕ) (a b c d e g : Bool)
+    → map
+    (λ m. eqb
+        (numberOf
+        (pick a (FrameTooLong n)
+        (pick b ChunkTooShort
+        (pick c (InvalidStartCode z) (pick d (InvalidPartitionSize x y) (pick e EmptyArea (pick g EndOfHeader Accepted)))))))
+        m)
+    (6 ∷ 1 ∷ 2 ∷ 3 ∷ 4 ∷ 5 ∷ 0 ∷ [])
+    ≡ a ∷ (not a && b) ∷ (not (a || b) && c) ∷ (not (a || b || c) && d) ∷ (not (a || b || c) && not d && e)
+    ∷ (not (a || b || c) && not (d || e) && g) ∷ (not (a || b || c) && not (d || e || g)) ∷ []
+marks n z x y true b c d e g = refl
+marks n z x y false true c d e g = refl
+marks n z x y false false true d e g = refl
+marks n z x y false false false true e g = refl
+marks n z x y false false false false true g = refl
+marks n z x y false false false false false true = refl
+marks n z x y false false false false false false = refl
+
+abbrev at : ℕ → List Bool → Bool
+at i bs = getD bs i false
+
+module _ (p : Parser) (f : List ℕ) where
+  -- the causes
+  pub outcome-is : call p f .outcome ≡ outcomeOf f
+  outcome-is = told p f .outcome
+
+  -- the state left by any call
+  pub left-is : call p f .parser ≡ left (call p f .outcome) (keyOf f) (coded (keyOf f) f) p
+  left-is = rw outcome-is (told p f .state)
+
+  -- every refusal has the blank header
+  pub refused-blank : 0 < numberOf (call p f .outcome) → call p f .header ≡ blank
+  refused-blank h = blank-of (outcomeOf f) _ (rw outcome-is at h) (told p f .head)
+
+  refused : (o : Outcome) → 0 < numberOf o → call p f .outcome ≡ o → call p f ≡ answer o blank (left o (keyOf f) (coded (keyOf f) f) p)
+  refused o h e = λ i. record { outcome = e i; header = refused-blank (rw e h) i; parser = (rw e at left-is) i }
+
+  -- what each refusal leaves, row by row
+  pub refused-6 : (n : ℕ) → call p f .outcome ≡ FrameTooLong n → call p f ≡ answer (FrameTooLong n) blank p
+  refused-6 n = refused (FrameTooLong n) (lit< tt)
+
+  pub refused-1 : call p f .outcome ≡ ChunkTooShort → call p f ≡ answer ChunkTooShort blank p
+  refused-1 = refused ChunkTooShort (lit< tt)
+
+  pub refused-2 : (code : ℕ) → call p f .outcome ≡ InvalidStartCode code → call p f ≡ answer (InvalidStartCode code) blank p
+  refused-2 code = refused (InvalidStartCode code) (lit< tt)
+
+  pub refused-3 : (end n : ℕ) → call p f .outcome ≡ InvalidPartitionSize end n
+      → call p f ≡ answer (InvalidPartitionSize end n) blank (pick (keyOf f) fresh p)
+  refused-3 end n = refused (InvalidPartitionSize end n) (lit< tt)
+
+  pub refused-4 : call p f .outcome ≡ EmptyArea → call p f ≡ answer EmptyArea blank (pick (keyOf f) fresh (cleared p))
+  refused-4 = refused EmptyArea (lit< tt)
+
+  pub refused-5 : call p f .outcome ≡ EndOfHeader → call p f ≡ answer EndOfHeader blank (apply (coded (keyOf f) f) (pick (keyOf f) fresh p))
+  refused-5 = refused EndOfHeader (lit< tt)
+
+  decided : (n : ℕ) (b : Bool) → eqb (numberOf (outcomeOf f)) n ≡ b → (numberOf (call p f .outcome) ≡ n) ↔ (b ≡ true)
+  decided n b e = rw outcome-is (λ h. sym e ∙ eq-eqb _ n h, λ h. eqb-true _ n (e ∙ h))
+
+  pub exactly : Exactly p f
+  unfolding outcomeOf
+  exactly =
+      let m = marks (length f) (le3 f 3) _ _ (tooLong f) (tooShort f) (otherCode f) (beyondEnd (keyOf f) f) (isEmpty (area (keyOf f) f)) (sizesBeyond (keyOf f) f) in
+      record {
+        six = decided 6 _ (ap (at 0) m);
+        one = decided 1 _ (ap (at 1) m);
+        two = decided 2 _ (ap (at 2) m);
+        three = decided 3 _ (ap (at 3) m);
+        four = decided 4 _ (ap (at 4) m);
+        five = decided 5 _ (ap (at 5) m);
+        accepted = decided 0 _ (ap (at 6) m);
+      }

@@ -1,6 +1,8 @@
 -- Document 01's table of refusals ("Refusal numbers, in order of checking"), from the bytes of a frame: `outcomeOf` is its columns
--- "Exactly when" and "Carries", `left` its column "State left".
+-- "Exactly when" and "Carries", `left` its column "State left". proofs/Refusals.antt shows that every call is as it says.
 use Prim.Native.Nat.{ℕ, _+_, _-_, _*_, _/_, _%_, _^_}
+use mathlib.Core.Logic.{_↔_}
+use mathlib.Core.Path.{_≡_}
 use mathlib.Core.Bool.{Bool, true, false, not, _&&_, _||_}
 use mathlib.Core.List.{List, [], _∷_}
 use lib.Dec.{leb, ltb, eqb}
@@ -8,13 +10,14 @@ use lib.ListN.{length, drop}
 use Rattle.vp8_records.specs.declared.Parser.{Parser}
 use Rattle.vp8_records.specs.declared.Outcome.{Outcome}
 use Rattle.vp8_records.specs.declared.Outcome.the-variants.{Accepted, ChunkTooShort, InvalidStartCode, InvalidPartitionSize, EmptyArea, EndOfHeader, FrameTooLong}
+use Rattle.vp8_records.specs.Outcome.{numberOf}
 use Rattle.vp8_records.specs.Start.{fresh}
 use Rattle.rfc6386.specs.Bytes.{le3}
 use Rattle.rfc6386.specs.Decoder.{bits, start, pick}
 use Rattle.rfc6386.specs.Reads.{run}
 use Rattle.rfc6386.specs.Coded.{Coded, header}
 use Rattle.rfc6386.specs.Frame.{codedSizes, sum}
-use Rattle.rfc6386.specs.Call.{apply, cleared}
+use Rattle.rfc6386.specs.Call.{apply, cleared, call}
 
 -- bit 0 of the tag is clear
 abbrev pub keyOf : List ℕ → Bool
@@ -94,3 +97,19 @@ left (InvalidPartitionSize end n) key c p = pick key fresh p
 left EmptyArea key c p = pick key fresh (cleared p)
 left EndOfHeader key c p = apply c (pick key fresh p)
 left Accepted key c p = apply c (pick key fresh p)
+
+-- 6, 1 and 2 do not refuse it: its chunk is valid
+abbrev pub opens : List ℕ → Bool
+opens f = not (tooLong f || tooShort f || otherCode f)
+
+-- each number exactly when its row's cause holds and no earlier row's does
+pub record Exactly (p : Parser) (f : List ℕ) : Type 0 where
+  pub six : (numberOf (call p f .outcome) ≡ 6) ↔ (tooLong f ≡ true)
+  pub one : (numberOf (call p f .outcome) ≡ 1) ↔ (not (tooLong f) && tooShort f ≡ true)
+  pub two : (numberOf (call p f .outcome) ≡ 2) ↔ (not (tooLong f || tooShort f) && otherCode f ≡ true)
+  pub three : (numberOf (call p f .outcome) ≡ 3) ↔ (opens f && beyondEnd (keyOf f) f ≡ true)
+  pub four : (numberOf (call p f .outcome) ≡ 4) ↔ (opens f && not (beyondEnd (keyOf f) f) && isEmpty (area (keyOf f) f) ≡ true)
+  pub five : (numberOf (call p f .outcome) ≡ 5)
+      ↔ (opens f && not (beyondEnd (keyOf f) f || isEmpty (area (keyOf f) f)) && sizesBeyond (keyOf f) f ≡ true)
+  pub accepted : (numberOf (call p f .outcome) ≡ 0)
+      ↔ (opens f && not (beyondEnd (keyOf f) f || isEmpty (area (keyOf f) f) || sizesBeyond (keyOf f) f) ≡ true)
