@@ -21,9 +21,9 @@ use Rattle.rfc6386.specs.Bytes.{le2, le3}
 use Rattle.rfc6386.specs.Decoder.{Out, bits, start, pick}
 use Rattle.rfc6386.specs.Reads.{run}
 use Rattle.rfc6386.specs.Coded.{Coded, header}
-use Rattle.rfc6386.specs.Frame.{Chunk, tagged, shut, opened, keyChunk, chunk, Snapshot, codedSizes, sum, sizes, beyond, empty, read, headed, body, follows, inside, decode}
+use Rattle.rfc6386.specs.Frame.{Chunk, tagged, Opened, shut, opened, keyChunk, chunk, Snapshot, codedSizes, sum, sizes, beyond, empty, read, headed, body, follows, inside, decode}
 use Rattle.rfc6386.specs.Call.{apply, cleared, answer, finish, call}
-use Rattle.rfc6386_history.specs.Refusals.{keyOf, rightCode, tooLong, tooShort, otherCode, chunkSize, area, firstSize, beyondEnd, isEmpty, coded, partitions, sizesEnd, codedOf, sizesBeyond, afterChunk, outcomeOf, left, Exactly}
+use Rattle.rfc6386_history.specs.Refusals.{keyOf, rightCode, tooLong, tooShort, otherCode, chunkSize, area, firstSize, beyondEnd, isEmpty, coded, partitions, sizesEnd, codedOf, sizesBeyond, afterChunk, outcomeOf, left, opens, Exactly}
 
 -- a refusal's header is the blank one
 abbrev Blank : Outcome → Header → Type 0
@@ -40,6 +40,43 @@ pub record Told (a : Parsed) (o : Outcome) (key : Bool) (c : Coded) (p : Parser)
   pub outcome : a .outcome ≡ o
   pub state : a .parser ≡ left o key c p
   pub head : Blank o (a .header)
+
+-- the definition's chunk by its tests: too long, under 3, key frame, under 6, right start code, under 10
+abbrev chunkBy : List ℕ → Bool → Bool → Bool → Bool → Bool → Bool → Opened
+chunkBy f a b key d e g = elim a [
+  | true ↦ shut (FrameTooLong (length f))
+  | false ↦ elim b [
+    | true ↦ shut ChunkTooShort
+    | false ↦ elim key [
+      | true ↦ elim d [
+        | true ↦ shut ChunkTooShort
+        | false ↦ elim e [
+          | false ↦ shut (InvalidStartCode (le3 f 3))
+          | true ↦ elim g [ true ↦ shut ChunkTooShort | false ↦ opened (tagged (le3 f 0) true 10 (le2 f 6) (le2 f 8)) ]
+        ]
+      ]
+      | false ↦ opened (tagged (le3 f 0) false 3 0 0)
+    ]
+  ]
+]
+
+-- a chunk is opened where 6, 1 and 2 do not refuse, and knows its kind
+abbrev pub Opens : Opened → Bool → Bool → Type 0
+Opens (shut o) key valid = valid ≡ false
+Opens (opened k) key valid = (k .key ≡ key) × (valid ≡ true)
+
+pub chunk-opens : (f : List ℕ) → Opens (chunk f) (keyOf f) (opens f)
+unfolding chunk keyChunk
+chunk-opens f = go (tooLong f) (ltb (length f) 3) (keyOf f) (ltb (length f) 6) (rightCode f) (ltb (length f) 10)
+  where
+    go : (a b key d e g : Bool) → Opens (chunkBy f a b key d e g) key (not (a || (b || key && (d || e && g)) || key && not d && not e))
+    go true b key d e g = refl
+    go false true key d e g = refl
+    go false false false d e g = (refl, refl)
+    go false false true true e g = refl
+    go false false true false false g = refl
+    go false false true false true true = refl
+    go false false true false true false = (refl, refl)
 
 module _ (p : Parser) where
   -- a header read to its end
@@ -97,27 +134,7 @@ module _ (p : Parser) where
     told = go (tooLong f) (ltb (length f) 3) (keyOf f) (ltb (length f) 6) (rightCode f) (ltb (length f) 10)
       where
         go : (a b key d e g : Bool)
-            → Told
-            (finish
-            (inside
-            (elim a [
-              | true ↦ shut (FrameTooLong (length f))
-              | false ↦ elim b [
-                | true ↦ shut ChunkTooShort
-                | false ↦ elim key [
-                  | true ↦ elim d [
-                    | true ↦ shut ChunkTooShort
-                    | false ↦ elim e [
-                      | false ↦ shut (InvalidStartCode (le3 f 3))
-                      | true ↦ elim g [ true ↦ shut ChunkTooShort | false ↦ opened (tagged (le3 f 0) true 10 (le2 f 6) (le2 f 8)) ]
-                    ]
-                  ]
-                  | false ↦ opened (tagged (le3 f 0) false 3 0 0)
-                ]
-              ]
-            ])
-            f)
-            p)
+            → Told (finish (inside (chunkBy f a b key d e g) f) p)
             (pick a (FrameTooLong (length f))
             (pick (b || key && (d || e && g)) ChunkTooShort (pick (key && not d && not e) (InvalidStartCode (le3 f 3)) (afterChunk key f))))
             key (coded key f) p
