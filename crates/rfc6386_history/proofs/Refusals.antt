@@ -1,45 +1,32 @@
 -- A call answers as document 01's table of refusals says: by cases on each test of the definition, taken apart once. What each refusal
 -- leaves and its exact cause are then read off the table. Assumes nothing.
-use Prim.Native.Nat.{ℕ, _+_, _-_, _*_, _%_, _^_, _<_}
+use Prim.Native.Nat.{ℕ, _+_, _-_, _*_, _^_, _<_}
 use native.Mathlib.Omega.{arith}
 use mathlib.Core.Logic.{_↔_}
 use mathlib.Core.Path.{_≡_, refl, sym, ap, _∙_}
 use mathlib.Core.Bool.{Bool, true, false, not, _&&_, _||_}
 use mathlib.Core.Option.{none, some}
 use mathlib.Core.List.{List, [], _∷_, map}
-use lib.Dec.{ltb, eqb, lit<}
-use lib.ListN.{length, drop, getD}
+use lib.Dec.{ltb, eqb}
+use lib.ListN.{length, getD}
 use borrow.Author.Tests.{eqb-true, eq-eqb}
 use Rattle.vp8_records.specs.declared.Parser.{Parser}
-use Rattle.vp8_records.specs.declared.Header.{Header}
 use Rattle.vp8_records.specs.declared.Parsed.{Parsed}
 use Rattle.vp8_records.specs.declared.Outcome.{Outcome}
 use Rattle.vp8_records.specs.declared.Outcome.the-variants.{Accepted, ChunkTooShort, InvalidStartCode, InvalidPartitionSize, EmptyArea, EndOfHeader, FrameTooLong}
 use Rattle.vp8_records.specs.Outcome.{numberOf}
 use Rattle.vp8_records.specs.Start.{fresh, blank}
 use Rattle.rfc6386.specs.Bytes.{le2, le3}
-use Rattle.rfc6386.specs.Decoder.{Out, bits, start, pick}
+use Rattle.rfc6386.specs.Decoder.{bits, start, pick}
 use Rattle.rfc6386.specs.Reads.{run}
 use Rattle.rfc6386.specs.Coded.{Coded, header}
 use Rattle.rfc6386.specs.Frame.{Chunk, tagged, Opened, shut, opened, keyChunk, chunk, Snapshot, codedSizes, sum, sizes, beyond, empty, read, headed, body, follows, inside, decode}
 use Rattle.rfc6386.specs.Call.{apply, cleared, answer, finish, call}
-use Rattle.rfc6386_history.specs.Refusals.{keyOf, rightCode, tooLong, tooShort, otherCode, chunkSize, area, firstSize, beyondEnd, isEmpty, coded, partitions, sizesEnd, codedOf, sizesBeyond, afterChunk, outcomeOf, left, opens, Exactly}
-
--- a refusal's header is the blank one
-abbrev Blank : Outcome → Header → Type 0
-Blank Accepted h = Unit {0}
-Blank ChunkTooShort h = h ≡ blank
-Blank (InvalidStartCode code) h = h ≡ blank
-Blank (InvalidPartitionSize end n) h = h ≡ blank
-Blank EmptyArea h = h ≡ blank
-Blank EndOfHeader h = h ≡ blank
-Blank (FrameTooLong n) h = h ≡ blank
+use Rattle.rfc6386_history.specs.Refusals.{keyOf, rightCode, tooLong, tooShort, otherCode, chunkSize, area, firstSize, beyondEnd, isEmpty, coded, sizesBeyond, afterChunk, outcomeOf, left, headOf, opens, Exactly}
 
 -- the answer a is the table's for the outcome o
-pub record Told (a : Parsed) (o : Outcome) (key : Bool) (c : Coded) (p : Parser) : Type 0 where
-  pub outcome : a .outcome ≡ o
-  pub state : a .parser ≡ left o key c p
-  pub head : Blank o (a .header)
+abbrev pub Told : Parsed → Outcome → Bool → Coded → Parser → Type 0
+Told a o key c p = a ≡ answer o (headOf o (a .header)) (left o key c p)
 
 -- the definition's chunk by its tests: too long, under 3, key frame, under 6, right start code, under 10
 abbrev chunkBy : List ℕ → Bool → Bool → Bool → Bool → Bool → Bool → Opened
@@ -90,9 +77,9 @@ module _ (p : Parser) where
       go : (a b : Bool) (ss : List ℕ)
           → Told (finish (follows k (read c s (elim a [ true ↦ none | false ↦ elim b [ true ↦ none | false ↦ some ss ] ]))) p)
           (pick (a || b) EndOfHeader Accepted) (k .key) c p
-      go true b ss = record { outcome = refl; state = refl; head = refl }
-      go false true ss = record { outcome = refl; state = refl; head = refl }
-      go false false ss = record { outcome = refl; state = refl; head = tt }
+      go true b ss = refl
+      go false true ss = refl
+      go false false ss = refl
 
   -- what follows the chunk
   module _ (f : List ℕ) where
@@ -124,8 +111,8 @@ module _ (p : Parser) where
             p)
             (pick a (InvalidPartitionSize (chunkSize key + firstSize f) (length f)) (pick (isEmpty xs) EmptyArea (pick (beyondIn xs) EndOfHeader Accepted)))
             key (got xs) p
-        go true xs = record { outcome = refl; state = refl; head = refl }
-        go false [] = record { outcome = refl; state = refl; head = refl }
+        go true xs = refl
+        go false [] = refl
         go false (b ∷ bs) = told-read k (got (b ∷ bs)) _ (2 ^ got (b ∷ bs) .log2parts) (b ∷ bs) (firstSize f)
 
     -- every call
@@ -138,89 +125,132 @@ module _ (p : Parser) where
             (pick a (FrameTooLong (length f))
             (pick (b || key && (d || e && g)) ChunkTooShort (pick (key && not d && not e) (InvalidStartCode (le3 f 3)) (afterChunk key f))))
             key (coded key f) p
-        go true b key d e g = record { outcome = refl; state = refl; head = refl }
-        go false true key d e g = record { outcome = refl; state = refl; head = refl }
+        go true b key d e g = refl
+        go false true key d e g = refl
         go false false false d e g = told-after false 0 0
-        go false false true true e g = record { outcome = refl; state = refl; head = refl }
-        go false false true false false g = record { outcome = refl; state = refl; head = refl }
-        go false false true false true true = record { outcome = refl; state = refl; head = refl }
+        go false false true true e g = refl
+        go false false true false false g = refl
+        go false false true false true true = refl
         go false false true false true false = told-after true (le2 f 6) (le2 f 8)
 
-blank-of : (o : Outcome) (h : Header) → 0 < numberOf o → Blank o h → h ≡ blank
-blank-of Accepted h n b = absurd (omega arith)
-blank-of ChunkTooShort h n b = b
-blank-of (InvalidStartCode code) h n b = b
-blank-of (InvalidPartitionSize end m) h n b = b
-blank-of EmptyArea h n b = b
-blank-of EndOfHeader h n b = b
-blank-of (FrameTooLong m) h n b = b
+-- the table by its causes, in order
+abbrev outcomeBy : List ℕ → Bool → Bool → Bool → Bool → Bool → Bool → Outcome
+outcomeBy f a b c d e g =
+    pick a (FrameTooLong (length f))
+    (pick b ChunkTooShort
+    (pick c (InvalidStartCode (le3 f 3))
+    (pick d (InvalidPartitionSize (chunkSize (keyOf f) + firstSize f) (length f)) (pick e EmptyArea (pick g EndOfHeader Accepted)))))
 
--- which of the seven numbers it is, by the causes in order
-marks : (n z x y : ℕ) (a b c d e g : Bool)
-    → map
-    (λ m. eqb
-        (numberOf
-        (pick a (FrameTooLong n)
-        (pick b ChunkTooShort
-        (pick c (InvalidStartCode z) (pick d (InvalidPartitionSize x y) (pick e EmptyArea (pick g EndOfHeader Accepted)))))))
-        m)
-    (6 ∷ 1 ∷ 2 ∷ 3 ∷ 4 ∷ 5 ∷ 0 ∷ [])
-    ≡ a ∷ (not a && b) ∷ (not (a || b) && c) ∷ (not (a || b || c) && d) ∷ (not (a || b || c) && not d && e)
-    ∷ (not (a || b || c) && not (d || e) && g) ∷ (not (a || b || c) && not (d || e || g)) ∷ []
-marks n z x y true b c d e g = refl
-marks n z x y false true c d e g = refl
-marks n z x y false false true d e g = refl
-marks n z x y false false false true e g = refl
-marks n z x y false false false false true g = refl
-marks n z x y false false false false false true = refl
-marks n z x y false false false false false false = refl
+-- an outcome with the numbers of the column "Carries"
+abbrev carrying : List ℕ → Outcome → Outcome
+carrying f (FrameTooLong n) = FrameTooLong (length f)
+carrying f ChunkTooShort = ChunkTooShort
+carrying f (InvalidStartCode code) = InvalidStartCode (le3 f 3)
+carrying f (InvalidPartitionSize end n) = InvalidPartitionSize (chunkSize (keyOf f) + firstSize f) (length f)
+carrying f EmptyArea = EmptyArea
+carrying f EndOfHeader = EndOfHeader
+carrying f Accepted = Accepted
 
-abbrev at : ℕ → List Bool → Bool
-at i bs = getD bs i false
+-- whether what an outcome leaves starts from the fresh parser
+abbrev pub resets : Outcome → Bool → Bool
+resets (FrameTooLong n) key = false
+resets ChunkTooShort key = false
+resets (InvalidStartCode code) key = false
+resets (InvalidPartitionSize end n) key = key
+resets EmptyArea key = key
+resets EndOfHeader key = key
+resets Accepted key = key
+
+-- what the causes say of the outcome: which of the seven numbers it has, what it carries, whether it resets
+record Rows (f : List ℕ) (a b c d e g : Bool) : Type 0 where
+  numbers : map (λ m. eqb (numberOf (outcomeBy f a b c d e g)) m) (6 ∷ 1 ∷ 2 ∷ 3 ∷ 4 ∷ 5 ∷ 0 ∷ [])
+      ≡ a ∷ (not a && b) ∷ (not (a || b) && c) ∷ (not (a || b || c) && d) ∷ (not (a || b || c) && not d && e)
+      ∷ (not (a || b || c) && not (d || e) && g) ∷ (not (a || b || c) && not (d || e || g)) ∷ []
+  carries : outcomeBy f a b c d e g ≡ carrying f (outcomeBy f a b c d e g)
+  resetting : not (a || b || c) && keyOf f ≡ resets (outcomeBy f a b c d e g) (keyOf f)
+
+rows : (f : List ℕ) (a b c d e g : Bool) → Rows f a b c d e g
+rows f true b c d e g = record { numbers = refl; carries = refl; resetting = refl }
+rows f false true c d e g = record { numbers = refl; carries = refl; resetting = refl }
+rows f false false true d e g = record { numbers = refl; carries = refl; resetting = refl }
+rows f false false false true e g = record { numbers = refl; carries = refl; resetting = refl }
+rows f false false false false true g = record { numbers = refl; carries = refl; resetting = refl }
+rows f false false false false false true = record { numbers = refl; carries = refl; resetting = refl }
+rows f false false false false false false = record { numbers = refl; carries = refl; resetting = refl }
+
+rows-of : (f : List ℕ)
+    → Rows f (tooLong f) (tooShort f) (otherCode f) (beyondEnd (keyOf f) f) (isEmpty (area (keyOf f) f)) (sizesBeyond (keyOf f) f)
+rows-of f = rows f _ _ _ _ _ _
+
+pub resets-opened : (f : List ℕ) → opens f && keyOf f ≡ resets (outcomeOf f) (keyOf f)
+unfolding outcomeOf
+resets-opened f = rows-of f .resetting
 
 module _ (p : Parser) (f : List ℕ) where
-  -- the causes
+  -- the columns "Exactly when" and "Carries"
   pub outcome-is : call p f .outcome ≡ outcomeOf f
-  outcome-is = told p f .outcome
+  outcome-is = ap (λ (a : Parsed). a .outcome) (told p f)
 
-  -- the state left by any call
-  pub left-is : call p f .parser ≡ left (call p f .outcome) (keyOf f) (coded (keyOf f) f) p
-  left-is = rw outcome-is (told p f .state)
+  -- the column "State left"
+  pub left-is : call p f .parser ≡ left (outcomeOf f) (keyOf f) (coded (keyOf f) f) p
+  left-is = ap (λ (a : Parsed). a .parser) (told p f)
+
+  -- the outcome o with what the row of q leaves
+  abbrev said : Outcome → Outcome → Parsed
+  said o q = answer o (headOf q (call p f .header)) (left q (keyOf f) (coded (keyOf f) f) p)
+
+  row : (o : Outcome) → call p f .outcome ≡ o → call p f ≡ said (carrying f o) o
+  unfolding outcomeOf
+  row o e =
+      let is : outcomeOf f ≡ o = sym outcome-is ∙ e in
+      told p f ∙ ap (λ (x : Outcome). said x (outcomeOf f)) (rows-of f .carries) ∙ ap (λ (x : Outcome). said (carrying f x) x) is
+
+  -- what each refusal carries and leaves, row by row
+  pub refused-6 : (n : ℕ) → call p f .outcome ≡ FrameTooLong n → call p f ≡ answer (FrameTooLong (length f)) blank p
+  refused-6 n = row (FrameTooLong n)
+
+  pub refused-1 : call p f .outcome ≡ ChunkTooShort → call p f ≡ answer ChunkTooShort blank p
+  refused-1 = row ChunkTooShort
+
+  pub refused-2 : (code : ℕ) → call p f .outcome ≡ InvalidStartCode code → call p f ≡ answer (InvalidStartCode (le3 f 3)) blank p
+  refused-2 code = row (InvalidStartCode code)
+
+  pub refused-3 : (end n : ℕ) → call p f .outcome ≡ InvalidPartitionSize end n
+      → call p f ≡ answer (InvalidPartitionSize (chunkSize (keyOf f) + firstSize f) (length f)) blank (pick (keyOf f) fresh p)
+  refused-3 end n = row (InvalidPartitionSize end n)
+
+  pub refused-4 : call p f .outcome ≡ EmptyArea → call p f ≡ answer EmptyArea blank (pick (keyOf f) fresh (cleared p))
+  refused-4 = row EmptyArea
+
+  pub refused-5 : call p f .outcome ≡ EndOfHeader → call p f ≡ answer EndOfHeader blank (apply (coded (keyOf f) f) (pick (keyOf f) fresh p))
+  refused-5 = row EndOfHeader
+
+  -- and what an accepted frame leaves
+  pub accepted-leaves : call p f .outcome ≡ Accepted → call p f .parser ≡ apply (coded (keyOf f) f) (pick (keyOf f) fresh p)
+  accepted-leaves e = ap (λ (a : Parsed). a .parser) (row Accepted e)
 
   -- every refusal has the blank header
   pub refused-blank : 0 < numberOf (call p f .outcome) → call p f .header ≡ blank
-  refused-blank h = blank-of (outcomeOf f) _ (rw outcome-is at h) (told p f .head)
-
-  refused : (o : Outcome) → 0 < numberOf o → call p f .outcome ≡ o → call p f ≡ answer o blank (left o (keyOf f) (coded (keyOf f) f) p)
-  refused o h e = λ i. record { outcome = e i; header = refused-blank (rw e h) i; parser = (rw e at left-is) i }
-
-  -- what each refusal leaves, row by row
-  pub refused-6 : (n : ℕ) → call p f .outcome ≡ FrameTooLong n → call p f ≡ answer (FrameTooLong n) blank p
-  refused-6 n = refused (FrameTooLong n) (lit< tt)
-
-  pub refused-1 : call p f .outcome ≡ ChunkTooShort → call p f ≡ answer ChunkTooShort blank p
-  refused-1 = refused ChunkTooShort (lit< tt)
-
-  pub refused-2 : (code : ℕ) → call p f .outcome ≡ InvalidStartCode code → call p f ≡ answer (InvalidStartCode code) blank p
-  refused-2 code = refused (InvalidStartCode code) (lit< tt)
-
-  pub refused-3 : (end n : ℕ) → call p f .outcome ≡ InvalidPartitionSize end n
-      → call p f ≡ answer (InvalidPartitionSize end n) blank (pick (keyOf f) fresh p)
-  refused-3 end n = refused (InvalidPartitionSize end n) (lit< tt)
-
-  pub refused-4 : call p f .outcome ≡ EmptyArea → call p f ≡ answer EmptyArea blank (pick (keyOf f) fresh (cleared p))
-  refused-4 = refused EmptyArea (lit< tt)
-
-  pub refused-5 : call p f .outcome ≡ EndOfHeader → call p f ≡ answer EndOfHeader blank (apply (coded (keyOf f) f) (pick (keyOf f) fresh p))
-  refused-5 = refused EndOfHeader (lit< tt)
+  refused-blank h = ap (λ (a : Parsed). a .header) (told p f) ∙ go (outcomeOf f) (rw outcome-is at h)
+    where
+      go : (o : Outcome) → 0 < numberOf o → headOf o (call p f .header) ≡ blank
+      go Accepted n = absurd (omega arith)
+      go ChunkTooShort n = refl
+      go (InvalidStartCode code) n = refl
+      go (InvalidPartitionSize end m) n = refl
+      go EmptyArea n = refl
+      go EndOfHeader n = refl
+      go (FrameTooLong m) n = refl
 
   decided : (n : ℕ) (b : Bool) → eqb (numberOf (outcomeOf f)) n ≡ b → (numberOf (call p f .outcome) ≡ n) ↔ (b ≡ true)
   decided n b e = rw outcome-is (λ h. sym e ∙ eq-eqb _ n h, λ h. eqb-true _ n (e ∙ h))
 
+  -- every refusal has its one cause
   pub exactly : Exactly p f
   unfolding outcomeOf
   exactly =
-      let m = marks (length f) (le3 f 3) _ _ (tooLong f) (tooShort f) (otherCode f) (beyondEnd (keyOf f) f) (isEmpty (area (keyOf f) f)) (sizesBeyond (keyOf f) f) in
+      let at : ℕ → List Bool → Bool = λ i bs. getD bs i false in
+      let m = rows-of f .numbers in
       record {
         six = decided 6 _ (ap (at 0) m);
         one = decided 1 _ (ap (at 1) m);

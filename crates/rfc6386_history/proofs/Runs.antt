@@ -1,7 +1,7 @@
 -- Laws of what is written over a run, by induction over it. Assumes nothing.
 use Prim.Native.Nat.{ℕ, zero, suc, _≤_}
 use native.Mathlib.Omega.{arith}
-use mathlib.Core.Path.{_≡_, refl, ap, _∙_}
+use mathlib.Core.Path.{_≡_, refl, ap}
 use mathlib.Core.Option.{Option, none, some, Option·map}
 use mathlib.Core.List.{List, [], _∷_, _++_, map}
 use lib.ListN.{length, getD}
@@ -27,7 +27,7 @@ over-fit zero [] xs h = refl
 over-fit zero (u ∷ us) [] h = refl
 over-fit zero (u ∷ us) (x ∷ xs) h = absurd (omega (arith, h))
 over-fit (suc n) [] [] h = refl
-over-fit (suc n) [] (x ∷ xs) h = ap (λ r. x ∷ r) (over-fit n [] xs (omega (arith, h)) ∙ refl)
+over-fit (suc n) [] (x ∷ xs) h = ap (λ r. x ∷ r) (over-fit n [] xs (omega (arith, h)))
 over-fit (suc n) (u ∷ us) [] h = refl
 over-fit (suc n) (u ∷ us) (x ∷ xs) h = ap (λ r. or u x ∷ r) (over-fit n us xs (omega (arith, h)))
 

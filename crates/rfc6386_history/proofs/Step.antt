@@ -3,9 +3,9 @@
 use Prim.Native.Nat.{ℕ, zero-le, _≤_}
 use native.Mathlib.Omega.{arith}
 use mathlib.Core.Path.{_≡_, refl, sym, ap, _∙_}
-use mathlib.Core.Bool.{Bool, true, false, false≢true, not, _&&_, _||_, and-false, and-true}
-use mathlib.Core.Option.{Option, none, some}
-use mathlib.Core.List.{List, [], _∷_}
+use mathlib.Core.Bool.{Bool, true, false, false≢true, not, _&&_, _||_, and-false}
+use mathlib.Core.Option.{Option}
+use mathlib.Core.List.{List, []}
 use lib.Dec.{ltb, lit≤}
 use lib.IntN.{ℤ, pos}
 use lib.ListN.{length, getD}
@@ -15,19 +15,18 @@ use Rattle.vp8_records.specs.declared.Outcome.{Outcome}
 use Rattle.vp8_records.specs.declared.Outcome.the-variants.{Accepted, ChunkTooShort, InvalidStartCode, InvalidPartitionSize, EmptyArea, EndOfHeader, FrameTooLong}
 use Rattle.vp8_records.specs.Layout.{joined}
 use Rattle.vp8_records.specs.Start.{fresh}
-use Rattle.rfc6386.specs.Bytes.{le3}
 use Rattle.rfc6386.specs.Decoder.{pick}
 use Rattle.rfc6386.specs.Runs.{or, over}
 use Rattle.rfc6386.specs.Coded.{Coded}
 use Rattle.rfc6386.specs.Frame.{Chunk, Opened, shut, opened, chunk, Body, beyond, empty, read, body, follows, inside, decode}
 use Rattle.rfc6386.specs.Call.{cleared, finish, call}
-use Rattle.rfc6386_history.specs.Refusals.{keyOf, rightCode, tooLong, tooShort, otherCode, opens, beyondEnd, isEmpty, area, sizesBeyond, afterChunk, coded, outcomeOf, left}
+use Rattle.rfc6386_history.specs.Refusals.{keyOf, rightCode, tooLong, opens, coded, outcomeOf, left}
 use Rattle.rfc6386_history.specs.Kept.{numbers, kept}
 use Rattle.rfc6386_history.specs.Shape.{Sized}
 use Rattle.rfc6386_history.specs.History.{cutter, wrote, writes}
 use Rattle.rfc6386_history.proofs.Runs.{getD-over}
-use Rattle.rfc6386_history.proofs.Writes.{Wrote, applied, sized-fresh, sized-apply, sized-cleared}
-use Rattle.rfc6386_history.proofs.Refusals.{told, Opens, chunk-opens}
+use Rattle.rfc6386_history.proofs.Writes.{applied, sized-fresh, sized-apply, sized-cleared}
+use Rattle.rfc6386_history.proofs.Refusals.{Opens, chunk-opens, resets, resets-opened, left-is}
 
 -- a cutter is a key frame that 6, 1 and 2 do not refuse
 pub cutter-opens : (f : List ℕ) → cutter f ≡ opens f && keyOf f
@@ -65,36 +64,9 @@ forgets p q f h = go (chunk f) (opens f) (chunk-opens f) (sym (cutter-opens f) �
     go (shut o) b e h = absurd (false≢true (rw e at h))
     go (opened k) b e h = forgets-body p q k (body k f) (e .0 ∙ (rw (e .1) at h))
 
--- whether what an outcome leaves starts from the fresh parser
-abbrev resets : Outcome → Bool → Bool
-resets (FrameTooLong n) key = false
-resets ChunkTooShort key = false
-resets (InvalidStartCode code) key = false
-resets (InvalidPartitionSize end n) key = key
-resets EmptyArea key = key
-resets EndOfHeader key = key
-resets Accepted key = key
-
--- that is, for a cutter
+-- what is left starts from the fresh parser just after a cutter
 cutter-resets : (f : List ℕ) → cutter f ≡ resets (outcomeOf f) (keyOf f)
-unfolding outcomeOf
-cutter-resets f =
-    cutter-opens f
-    ∙ go _ _ (tooLong f) (tooShort f) (otherCode f) (keyOf f) (afterChunk (keyOf f) f)
-    (late _ _ (keyOf f) (beyondEnd (keyOf f) f) (isEmpty (area (keyOf f) f)) (sizesBeyond (keyOf f) f))
-  where
-    late : (m n : ℕ) (key a b c : Bool) → resets (pick a (InvalidPartitionSize m n) (pick b EmptyArea (pick c EndOfHeader Accepted))) key ≡ key
-    late m n key true b c = refl
-    late m n key false true c = refl
-    late m n key false false true = refl
-    late m n key false false false = refl
-
-    go : (n z : ℕ) (a b c key : Bool) (o : Outcome) → resets o key ≡ key
-        → not (a || b || c) && key ≡ resets (pick a (FrameTooLong n) (pick b ChunkTooShort (pick c (InvalidStartCode z) o))) key
-    go n z true b c key o h = refl
-    go n z false true c key o h = refl
-    go n z false false true key o h = refl
-    go n z false false false key o h = sym h
+cutter-resets f = cutter-opens f ∙ resets-opened f
 
 sized-base : (key : Bool) (p : Parser) → Sized p → Sized (pick key fresh p)
 sized-base true p s = sized-fresh
@@ -115,7 +87,7 @@ sized-left Accepted key c p s = sized-apply c (pick key fresh p) (sized-base key
 
 -- a call keeps the shape
 pub sized-call : (p : Parser) (f : List ℕ) → Sized p → Sized (call p f .parser)
-sized-call p f s = rw (told p f .state) (sized-left (outcomeOf f) (keyOf f) (coded (keyOf f) f) p s)
+sized-call p f s = rw (left-is p f) (sized-left (outcomeOf f) (keyOf f) (coded (keyOf f) f) p s)
 
 -- us, at most as many as the numbers of p, written over them give those of q
 record Moves (us : List (Option ℤ)) (p q : Parser) : Type 0 where
@@ -150,6 +122,8 @@ pub writes-one : (p : Parser) (f : List ℕ) (i : ℕ) → Sized p
     → kept (call p f .parser) i ≡ or (writes f i) (kept (pick (cutter f) fresh p) i)
 unfolding kept writes
 writes-one p f i s =
+    let us = wrote (outcomeOf f) (keyOf f) (coded (keyOf f) f) in
+    let from = pick (resets (outcomeOf f) (keyOf f)) fresh p in
     let m = moves (outcomeOf f) (keyOf f) (coded (keyOf f) f) p s in
-    rw (told p f .state, cutter-resets f)
-    (ap (λ (ns : List ℤ). getD ns i (pos 0)) (sym (m .is)) ∙ getD-over (wrote (outcomeOf f) (keyOf f) (coded (keyOf f) f)) (numbers (pick (resets (outcomeOf f) (keyOf f)) fresh p)) i (pos 0) (m .fits))
+    rw (left-is p f, cutter-resets f)
+    (ap (λ (ns : List ℤ). getD ns i (pos 0)) (sym (m .is)) ∙ getD-over us (numbers from) i (pos 0) (m .fits))

@@ -1,19 +1,19 @@
 -- A header read to its end writes what document 01 says, group by group, and the parser keeps its shape. Assumes nothing.
-use Prim.Native.Nat.{ℕ, _+_, _≤_}
+use Prim.Native.Nat.{ℕ}
 use native.Mathlib.Omega.{arith}
-use mathlib.Core.Path.{_≡_, refl, sym, ap, ap₂, _∙_}
+use mathlib.Core.Path.{_≡_, refl, sym, ap₂, _∙_}
 use mathlib.Core.Bool.{Bool, true, false}
 use mathlib.Core.Option.{Option, none, some, Option·map}
 use mathlib.Core.List.{List, [], _∷_, _++_, map}
 use lib.Dec.{lit≤}
 use lib.IntN.{ℤ, pos}
-use lib.ListN.{length, take, length-append, length-map}
+use lib.ListN.{length, length-append, length-map}
 use lib.Seq.{take-all}
 use Rattle.vp8_probs.specs.Tables.{coeffDefault, mvDefault}
 use Rattle.vp8_records.specs.declared.Segmentation.{Segmentation}
 use Rattle.vp8_records.specs.declared.MbLfAdjustments.{MbLfAdjustments}
 use Rattle.vp8_records.specs.declared.Parser.{Parser}
-use Rattle.vp8_records.specs.Layout.{joined, flatCoeffs, flatMv, laidCoeffs, laidMv}
+use Rattle.vp8_records.specs.Layout.{joined, flatCoeffs, flatMv}
 use Rattle.vp8_records.specs.Start.{freshCoeffs, freshMv, fresh}
 use Rattle.rfc6386.specs.Decoder.{pick}
 use Rattle.rfc6386.specs.Runs.{or, over}
@@ -27,7 +27,9 @@ use Rattle.rfc6386_history.proofs.Runs.{length-over, length-fit, over-f
 
 infixr 65 _then_
 -- what is written over records of n numbers, laid out again
-module _ {A : Type 0} {flat : A → List ℕ} {laid : List ℕ → A} {n : ℕ} {Good : A → Type 0} (law : Laid flat laid n Good) (us : List (Option ℕ)) (x : A) (g : Good x) where
+module _
+    {A : Type 0} {flat : A → List ℕ} {laid : List ℕ → A} {n : ℕ} {Good : A → Type 0} (law : Laid flat laid n Good)
+    (us : List (Option ℕ)) (x : A) (g : Good x) where
   over-size : length (over us (flat x)) ≡ n
   over-size = length-over us (flat x) ∙ law .size x g
 
@@ -49,7 +51,7 @@ nothing = record { same = refl; is = refl }
 -- a group, and what follows it
 _then_ : {A : Type 0} {us vs : List (Option A)} {xs ys zs ws : List A} → Wrote us xs zs → Wrote vs ys ws → Wrote (us ++ vs) (xs ++ ys) (zs ++ ws)
 _then_ {us = us} {vs} {xs} {ys} {zs} {ws} a b = record {
-  same = length-append xs ys ∙ ap₂ _+_ (a .same) (b .same) ∙ sym (length-append us vs);
+  same = simp length-append (omega (arith, a .same, b .same));
   is = over-append us vs xs ys (a .same) ∙ ap₂ _++_ (a .is) (b .is);
 }
 
@@ -59,6 +61,7 @@ unfolding over
 flag none b = record { same = refl; is = refl }
 flag (some a) b = record { same = refl; is = refl }
 
+-- a group of n
 module _ (n : ℕ) where
   values : (us : List (Option ℤ)) (xs : List ℤ) → length xs ≡ n → Wrote (fit n us) xs (over us xs)
   values us xs h = record { same = h ∙ sym (length-fit n us); is = over-fit n us xs h }
@@ -69,13 +72,14 @@ module _ (n : ℕ) where
     is = over-fit n _ _ (length-map xs pos ∙ h) ∙ over-map pos us xs;
   }
 
-  -- probabilities that are saved only where b is set
+  -- that is saved only where b is set
   saves : (b : Bool) (flat : Probs → List ℕ) (new old : Probs) (us : List (Option ℕ)) → length (flat old) ≡ n → flat new ≡ over us (flat old)
       → Wrote (bytes n (pick b us [])) (map pos (flat old)) (map pos (flat (pick b new old)))
   unfolding over
   saves true flat new old us h e = rw e (probs us (flat old) h)
   saves false flat new old us h e = probs [] (flat old) h
 
+-- all eleven groups
 pub applied : (c : Coded) (p : Parser) → Sized p → Wrote (written c) (numbers p) (numbers (apply c p))
 unfolding written numbers joined apply segmented adjusted probsOver coeffsOver mvOver modesOver
 applied c p s =
@@ -90,8 +94,10 @@ applied c p s =
     then flag (some (c .deltas .update)) (a .«mode_ref_lf_delta_update»)
     then values 4 (c .deltas .frames) (a .«ref_frame_delta») (s .frames)
     then values 4 (c .deltas .modes) (a .«mb_mode_delta») (s .modes)
-    then saves 1056 e (λ q. flatCoeffs (q .coeffs)) new old (c .coeffs) (coeffs .size (p .«coeff_prob») (s .coeffs)) (over-there coeffs (c .coeffs) (p .«coeff_prob») (s .coeffs))
-    then saves 38 e (λ q. flatMv (q .mv)) new old (c .inter .motion) (mv .size (p .«mv_prob») (s .motion)) (over-there mv (c .inter .motion) (p .«mv_prob») (s .motion))
+    then saves 1056 e (λ q. flatCoeffs (q .coeffs)) new old (c .coeffs)
+    (coeffs .size (p .«coeff_prob») (s .coeffs)) (over-there coeffs (c .coeffs) (p .«coeff_prob») (s .coeffs))
+    then saves 38 e (λ q. flatMv (q .mv)) new old (c .inter .motion)
+    (mv .size (p .«mv_prob») (s .motion)) (over-there mv (c .inter .motion) (p .«mv_prob») (s .motion))
     then saves 4 e (λ q. q .modes .«intra_16x16_prob») new old (c .inter .luma) (s .luma) refl
     then saves 3 e (λ q. q .modes .«intra_chroma_prob») new old (c .inter .chroma) (s .chroma) refl
     then nothing

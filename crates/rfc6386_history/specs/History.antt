@@ -1,7 +1,7 @@
 -- Which frames cut off the past, and what a frame writes to each kept number: document 01, "What the parser keeps" and the refusal
 -- table. It is written from those rules; proofs/History.antt shows that calls follow it.
 use Prim.Native.Nat.{ℕ, zero, suc}
-use mathlib.Core.Bool.{Bool, true, false, not, _&&_, _||_}
+use mathlib.Core.Bool.{Bool, false, not, _&&_, _||_}
 use mathlib.Core.Option.{Option, none, some, Option·map}
 use mathlib.Core.List.{List, [], _∷_, map}
 use lib.Dec.{ltb}

@@ -4,9 +4,6 @@ use mathlib.Core.Bool.{Bool, true, false}
 use mathlib.Core.List.{List, [], _∷_, map}
 use lib.IntN.{ℤ, pos}
 use lib.ListN.{getD}
-use Rattle.vp8_records.specs.declared.Segmentation.{Segmentation}
-use Rattle.vp8_records.specs.declared.MbLfAdjustments.{MbLfAdjustments}
-use Rattle.vp8_records.specs.declared.ModeProbs.{ModeProbs}
 use Rattle.vp8_records.specs.declared.Parser.{Parser}
 use Rattle.vp8_records.specs.Layout.{joined, flatCoeffs, flatMv}
 

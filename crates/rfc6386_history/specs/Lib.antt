@@ -3,7 +3,6 @@
 --   Kept: the 1,126 kept numbers, in order; Shape: the parsers that have just these.
 --   History: which frames cut off the past, and what a frame writes to each kept number.
 --   Past: a header's parts that the past may touch.
--- proofs/History.antt has demand 3 itself, cut-off and last-writer; Numbers, Refusals and Past are about the other files here.
 pub mod Refusals
 pub mod Kept
 pub mod Shape

@@ -8,10 +8,11 @@ use mathlib.Core.List.{List, [], _∷_}
 use lib.Dec.{leb, ltb, eqb}
 use lib.ListN.{length, drop}
 use Rattle.vp8_records.specs.declared.Parser.{Parser}
+use Rattle.vp8_records.specs.declared.Header.{Header}
 use Rattle.vp8_records.specs.declared.Outcome.{Outcome}
 use Rattle.vp8_records.specs.declared.Outcome.the-variants.{Accepted, ChunkTooShort, InvalidStartCode, InvalidPartitionSize, EmptyArea, EndOfHeader, FrameTooLong}
 use Rattle.vp8_records.specs.Outcome.{numberOf}
-use Rattle.vp8_records.specs.Start.{fresh}
+use Rattle.vp8_records.specs.Start.{fresh, blank}
 use Rattle.rfc6386.specs.Bytes.{le3}
 use Rattle.rfc6386.specs.Decoder.{bits, start, pick}
 use Rattle.rfc6386.specs.Reads.{run}
@@ -97,6 +98,16 @@ left (InvalidPartitionSize end n) key c p = pick key fresh p
 left EmptyArea key c p = pick key fresh (cleared p)
 left EndOfHeader key c p = apply c (pick key fresh p)
 left Accepted key c p = apply c (pick key fresh p)
+
+-- a refusal has the blank header
+abbrev pub headOf : Outcome → Header → Header
+headOf Accepted h = h
+headOf ChunkTooShort h = blank
+headOf (InvalidStartCode code) h = blank
+headOf (InvalidPartitionSize end n) h = blank
+headOf EmptyArea h = blank
+headOf EndOfHeader h = blank
+headOf (FrameTooLong n) h = blank
 
 -- 6, 1 and 2 do not refuse it: its chunk is valid
 abbrev pub opens : List ℕ → Bool
