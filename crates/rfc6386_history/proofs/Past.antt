@@ -16,15 +16,10 @@ use Rattle.rfc6386_history.specs.Refusals.{keyOf, opens}
 use Rattle.rfc6386_history.specs.Kept.{kept}
 use Rattle.rfc6386_history.specs.Shape.{Sized}
 use Rattle.rfc6386_history.specs.History.{anyCutter, since, writes, last}
-use Rattle.rfc6386_history.specs.Past.{probsIn, withProbs}
+use Rattle.rfc6386_history.specs.Past.{withProbs, Alike}
 use Rattle.rfc6386_history.proofs.Refusals.{Opens, chunk-opens}
 use Rattle.rfc6386_history.proofs.Step.{forgets-body}
 use Rattle.rfc6386_history.proofs.History.{last-writer-from}
-
--- two answers that differ in the header's probabilities and the state alone
-pub record Alike (a b : Parsed) : Type 0 where
-  pub outcome : a .outcome ≡ b .outcome
-  pub header : a .header ≡ withProbs (b .header) (probsIn (a .header))
 
 alike : (s : Said) (p q : Parser) → Alike (finish s p) (finish s q)
 unfolding withProbs headerOf

@@ -1,5 +1,7 @@
--- What the past may touch of a header: its three groups of probabilities.
+-- What the past may touch of an answer: the header's three groups of probabilities, and the state.
+use mathlib.Core.Path.{_≡_}
 use Rattle.vp8_records.specs.declared.Header.{Header}
+use Rattle.vp8_records.specs.declared.Parsed.{Parsed}
 use Rattle.rfc6386.specs.Call.{Probs}
 
 abbrev pub probsIn : Header → Probs
@@ -49,3 +51,8 @@ withProbs h q = record {
   «mb_cols» = h .«mb_cols»;
   «mb_rows» = h .«mb_rows»;
 }
+
+-- two answers that differ in the header's probabilities and the state alone
+pub record Alike (a b : Parsed) : Type 0 where
+  pub outcome : a .outcome ≡ b .outcome
+  pub header : a .header ≡ withProbs (b .header) (probsIn (a .header))
