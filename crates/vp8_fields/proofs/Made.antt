@@ -3,7 +3,7 @@ use Prim.Native.Nat.{ℕ}
 use mathlib.Core.Path.{_≡_, refl, sym, ap, _∙_}
 use mathlib.Core.List.{List}
 use Rattle.rfc6386.specs.Decoder.{State, Out, bits, readBool}
-use Rattle.rfc6386.specs.Reads.{Rd, ret, ask, run, make}
+use Rattle.rfc6386.specs.Reads.{Rd, ret, ask, _>>=_, run, make}
 use Rattle.bool_decoder.specs.Model.{out, Ran}
 use Rattle.bool_decoder.specs.Window.{stateOf}
 use Rattle.bool_decoder.specs.declared.BoolDecoder.{BoolDecoder}

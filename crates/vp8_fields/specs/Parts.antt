@@ -4,7 +4,7 @@ use mathlib.Core.Option.{Option}
 use mathlib.Core.List.{List}
 use lib.ListN.{take, drop}
 use Rattle.vp8_records.specs.declared.ModeProbs.{ModeProbs}
-use Rattle.rfc6386.specs.Reads.{Rd, ret, make, each, maybe, lit}
+use Rattle.rfc6386.specs.Reads.{Rd, ret, _>>=_, make, each, maybe, lit}
 use Rattle.rfc6386.specs.Runs.{over}
 use Rattle.rfc6386.specs.Coded.{mvOf, modes}
 use Rattle.rfc6386.specs.Call.{modesOver}

@@ -1,0 +1,87 @@
+-- Demand 3. A cutter's answer does not depend on what was kept, so a run of calls splits there; and a kept number is what the last frame
+-- that wrote it since then wrote, by induction over the frames. Assumes nothing.
+use Prim.Native.Nat.{ℕ}
+use mathlib.Core.Path.{_≡_, refl, sym, ap, _∙_}
+use mathlib.Core.Bool.{Bool, true, false, _||_, or-true, or-false, true≢false}
+use mathlib.Core.List.{List, [], _∷_, _++_, map}
+use lib.IntN.{ℤ}
+use Rattle.vp8_records.specs.declared.Parser.{Parser}
+use Rattle.vp8_records.specs.declared.Parsed.{Parsed}
+use Rattle.vp8_records.specs.Start.{fresh}
+use Rattle.rfc6386.specs.Decoder.{pick}
+use Rattle.rfc6386.specs.Runs.{or}
+use Rattle.rfc6386.specs.Call.{call, calls, after}
+use Rattle.rfc6386_history.specs.Kept.{kept}
+use Rattle.rfc6386_history.specs.Shape.{Sized}
+use Rattle.rfc6386_history.specs.History.{cutter, anyCutter, since, writes, last}
+use Rattle.rfc6386_history.proofs.Runs.{or-last}
+use Rattle.rfc6386_history.proofs.Writes.{sized-fresh}
+use Rattle.rfc6386_history.proofs.Step.{forgets, sized-call, writes-one}
+
+-- from a cutter on, all answers and states are those of a fresh parser
+pub cut-off : (p : Parser) (xs : List (List ℕ)) (k : List ℕ) (ys : List (List ℕ)) → cutter k ≡ true
+    → calls p (xs ++ k ∷ ys) ≡ calls p xs ++ calls fresh (k ∷ ys)
+unfolding calls
+cut-off p [] k ys h = ap (λ (a : Parsed). a ∷ calls (a .parser) ys) (forgets p fresh k h)
+cut-off p (x ∷ xs) k ys h = ap (λ r. call p x ∷ r) (cut-off (call p x .parser) xs k ys h)
+
+-- the state after them is that of the last
+pub cut-off-after : (p : Parser) (xs : List (List ℕ)) (k : List ℕ) (ys : List (List ℕ)) → cutter k ≡ true
+    → after p (xs ++ k ∷ ys) ≡ after fresh (k ∷ ys)
+unfolding after
+cut-off-after p [] k ys h = ap (λ (a : Parsed). after (a .parser) ys) (forgets p fresh k h)
+cut-off-after p (x ∷ xs) k ys h = cut-off-after (call p x .parser) xs k ys h
+
+-- with no cutter, all frames count
+pub since-all : (xs : List (List ℕ)) → anyCutter xs ≡ false → since xs ≡ xs
+unfolding since anyCutter
+since-all [] h = refl
+since-all (x ∷ xs) h = go (anyCutter xs) h
+  where
+    go : (b : Bool) → cutter x || b ≡ false → pick b (since xs) (x ∷ xs) ≡ x ∷ xs
+    go true e = absurd (true≢false (rw or-true at e))
+    go false e = refl
+
+any-cutter : (xs : List (List ℕ)) (k : List ℕ) (ys : List (List ℕ)) → cutter k ≡ true → anyCutter (xs ++ k ∷ ys) ≡ true
+unfolding anyCutter
+any-cutter [] k ys h = rw h
+any-cutter (x ∷ xs) k ys h = rw (any-cutter xs k ys h, or-true)
+
+-- otherwise the latest cutter does, and the frames after it
+pub since-cutter : (xs : List (List ℕ)) (k : List ℕ) (ys : List (List ℕ)) → cutter k ≡ true → anyCutter ys ≡ false
+    → since (xs ++ k ∷ ys) ≡ k ∷ ys
+unfolding since
+since-cutter [] k ys h e = rw e
+since-cutter (x ∷ xs) k ys h e = rw (any-cutter xs k ys h) (since-cutter xs k ys h e)
+
+-- from any state of the right shape
+pub last-writer-from : (p : Parser) (xs : List (List ℕ)) (i : ℕ) → Sized p
+    → kept (after p xs) i ≡ or (last (map (λ f. writes f i) (since xs))) (kept (pick (anyCutter xs) fresh p) i)
+unfolding after since anyCutter last
+last-writer-from p [] i s = refl
+last-writer-from p (x ∷ xs) i s = go (anyCutter xs) refl (last-writer-from (call p x .parser) xs i (sized-call p x s))
+  where
+    q : Parser
+    q = call p x .parser
+
+    go : (b : Bool) → anyCutter xs ≡ b
+        → kept (after q xs) i ≡ or (last (map (λ f. writes f i) (since xs))) (kept (pick (anyCutter xs) fresh q) i)
+        → kept (after q xs) i
+        ≡ or (last (map (λ f. writes f i) (pick (anyCutter xs) (since xs) (x ∷ xs)))) (kept (pick (cutter x || anyCutter xs) fresh p) i)
+    go true e ih = rw (e, or-true) (rw e at ih)
+    go false e ih =
+        rw (e, or-false)
+        ((rw (e, since-all xs e) at ih)
+        ∙ ap (λ (z : ℤ). or (last (map (λ f. writes f i) xs)) z) (writes-one p x i s)
+        ∙ sym (or-last (writes x i) (map (λ f. writes f i) xs) _))
+
+-- from a fresh parser: the last writer since the latest cutter, or else the starting value
+pub last-writer : (xs : List (List ℕ)) (i : ℕ)
+    → kept (after fresh xs) i ≡ or (last (map (λ f. writes f i) (since xs))) (kept fresh i)
+last-writer xs i =
+    last-writer-from fresh xs i sized-fresh
+    ∙ ap (λ (z : Parser). or (last (map (λ f. writes f i) (since xs))) (kept z i)) (same (anyCutter xs))
+  where
+    same : (b : Bool) → pick b fresh fresh ≡ fresh
+    same true = refl
+    same false = refl

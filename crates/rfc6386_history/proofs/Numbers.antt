@@ -1,0 +1,138 @@
+-- The kept numbers are all that a parser keeps: groups of the same lengths that make the same run are the same, and each field is read
+-- back from its group. Assumes nothing.
+use Prim.Native.Nat.{ℕ, zero, suc, _+_}
+use native.Mathlib.Omega.{arith}
+use mathlib.Core.Path.{_≡_, refl, sym, ap, ap₂, _∙_}
+use mathlib.Core.Bool.{Bool, true, false}
+use mathlib.Core.List.{List, [], _∷_, _++_, map}
+use lib.IntN.{ℤ, pos, negsuc}
+use lib.ListN.{length, take, drop, getD, length-append, length-map}
+use lib.Seq.{take-at, drop-at, ext-getD}
+use Rattle.vp8_records.specs.declared.Parser.{Parser}
+use Rattle.vp8_records.specs.Layout.{joined, flatCoeffs, flatMv}
+use Rattle.vp8_records.specs.Start.{fresh}
+use Rattle.rfc6386.specs.Runs.{or}
+use Rattle.rfc6386.specs.Frame.{sum}
+use Rattle.rfc6386.specs.Call.{call, after}
+use Rattle.rfc6386_history.specs.Kept.{flagged, groups, all, numbers, kept}
+use Rattle.rfc6386_history.specs.Shape.{Sized}
+use Rattle.rfc6386_history.specs.History.{since, writes, last}
+use Rattle.rfc6386_history.proofs.Parts.{Laid, coeffs, mv}
+use Rattle.rfc6386_history.proofs.Writes.{sized-fresh}
+use Rattle.rfc6386_history.proofs.Step.{sized-call}
+use Rattle.rfc6386_history.proofs.History.{last-writer}
+
+same-groups : {A : Type 0} (xs ys : List (List A)) → map length xs ≡ map length ys → all xs ≡ all ys → xs ≡ ys
+unfolding joined
+same-groups [] [] h e = refl
+same-groups [] (y ∷ ys) h e = absurd (let z : _≡_ {A = ℕ} 0 1 = cc in omega arith)
+same-groups (x ∷ xs) [] h e = absurd (let z : _≡_ {A = ℕ} 0 1 = cc in omega arith)
+same-groups {A} (x ∷ xs) (y ∷ ys) h e =
+    let n : length x ≡ length y = cc in
+    let ns : map length xs ≡ map length ys = cc in
+    let first : x ≡ y = sym (take-at x (all xs) _ n) ∙ ap (λ (l : List A). take (length y) l) e ∙ take-at y (all ys) _ refl in
+    let rest : all xs ≡ all ys = sym (drop-at x (all xs) _ n) ∙ ap (λ (l : List A). drop (length y) l) e ∙ drop-at y (all ys) _ refl in
+    ap₂ {C = List (List A)} (λ a b. a ∷ b) first (same-groups xs ys ns rest)
+
+length-all : {A : Type 0} (xs : List (List A)) → length (all xs) ≡ sum (map length xs)
+unfolding joined sum
+length-all [] = refl
+length-all (x ∷ xs) = length-append x (all xs) ∙ ap (λ (n : ℕ). length x + n) (length-all xs)
+
+lengths-are : (p : Parser) → Sized p → map length (groups p) ≡ 4 ∷ 4 ∷ 4 ∷ 3 ∷ 2 ∷ 4 ∷ 4 ∷ 1056 ∷ 38 ∷ 4 ∷ 3 ∷ []
+lengths-are p s =
+    λ i.
+    4 ∷ s .quantizers i ∷ s .levels i ∷ bytes (p .segmentation .«segment_prob») (s .probs) i ∷ 2 ∷ s .frames i ∷ s .modes i
+    ∷ bytes (flatCoeffs (p .«coeff_prob»)) (coeffs .size (p .«coeff_prob») (s .coeffs)) i
+    ∷ bytes (flatMv (p .«mv_prob»)) (mv .size (p .«mv_prob») (s .motion)) i
+    ∷ bytes (p .«mode_probs» .«intra_16x16_prob») (s .luma) i
+    ∷ bytes (p .«mode_probs» .«intra_chroma_prob») (s .chroma) i
+    ∷ []
+  where
+    bytes : (xs : List ℕ) {n : ℕ} → length xs ≡ n → length (map pos xs) ≡ n
+    bytes xs h = length-map xs pos ∙ h
+
+-- there are 1,126
+pub how-many : (p : Parser) → Sized p → length (numbers p) ≡ 1126
+unfolding numbers sum
+how-many p s = length-all (groups p) ∙ ap sum (lengths-are p s)
+
+-- a flag and a byte are back from their numbers
+abbrev isOne : ℤ → Bool
+isOne (pos zero) = false
+isOne (pos (suc n)) = true
+isOne (negsuc n) = false
+
+isOne-flagged : (b : Bool) → isOne (flagged b) ≡ b
+isOne-flagged true = refl
+isOne-flagged false = refl
+
+abbrev byte : ℤ → ℕ
+byte (pos n) = n
+byte (negsuc n) = 0
+
+byte-pos : (xs : List ℕ) → map byte (map pos xs) ≡ xs
+byte-pos [] = refl
+byte-pos (x ∷ xs) = ap (λ (l : List ℕ). x ∷ l) (byte-pos xs)
+
+module _ (p q : Parser) (s : Sized p) (t : Sized q) where
+  same-numbers : numbers p ≡ numbers q → p ≡ q
+  unfolding numbers
+  same-numbers e =
+      λ i. record {
+        segmentation = record {
+          «segmentation_enabled» = flag 0 0 (λ x. x .segmentation .«segmentation_enabled») (λ x. refl) i;
+          «update_mb_segmentation_map» = flag 0 1 (λ x. x .segmentation .«update_mb_segmentation_map») (λ x. refl) i;
+          «update_segment_feature_data» = flag 0 2 (λ x. x .segmentation .«update_segment_feature_data») (λ x. refl) i;
+          «segment_feature_mode» = flag 0 3 (λ x. x .segmentation .«segment_feature_mode») (λ x. refl) i;
+          «quantizer_update_value» = group 1 i;
+          «lf_update_value» = group 2 i;
+          «segment_prob» = bytes 3 (λ x. x .segmentation .«segment_prob») (λ x. refl) i;
+        };
+        «mb_lf_adjust» = record {
+          «loop_filter_adj_enable» = flag 4 0 (λ x. x .«mb_lf_adjust» .«loop_filter_adj_enable») (λ x. refl) i;
+          «mode_ref_lf_delta_update» = flag 4 1 (λ x. x .«mb_lf_adjust» .«mode_ref_lf_delta_update») (λ x. refl) i;
+          «ref_frame_delta» = group 5 i;
+          «mb_mode_delta» = group 6 i;
+        };
+        «coeff_prob» = laid coeffs (p .«coeff_prob») (q .«coeff_prob») (s .coeffs) (t .coeffs) (bytes 7 (λ x. flatCoeffs (x .«coeff_prob»)) (λ x. refl)) i;
+        «mv_prob» = laid mv (p .«mv_prob») (q .«mv_prob») (s .motion) (t .motion) (bytes 8 (λ x. flatMv (x .«mv_prob»)) (λ x. refl)) i;
+        «mode_probs» = record {
+          «intra_16x16_prob» = bytes 9 (λ x. x .«mode_probs» .«intra_16x16_prob») (λ x. refl) i;
+          «intra_chroma_prob» = bytes 10 (λ x. x .«mode_probs» .«intra_chroma_prob») (λ x. refl) i;
+        };
+      }
+    where
+      same : groups p ≡ groups q
+      same = same-groups (groups p) (groups q) (lengths-are p s ∙ sym (lengths-are q t)) e
+
+      group : (j : ℕ) → getD (groups p) j [] ≡ getD (groups q) j []
+      group j = ap (λ (gs : List (List ℤ)). getD gs j []) same
+
+      flag : (j k : ℕ) (f : Parser → Bool) → ((x : Parser) → getD (getD (groups x) j []) k (pos 0) ≡ flagged (f x)) → f p ≡ f q
+      flag j k f h =
+          sym (isOne-flagged (f p)) ∙ ap isOne (sym (h p) ∙ ap (λ (l : List ℤ). getD l k (pos 0)) (group j) ∙ h q) ∙ isOne-flagged (f q)
+
+      bytes : (j : ℕ) (f : Parser → List ℕ) → ((x : Parser) → getD (groups x) j [] ≡ map pos (f x)) → f p ≡ f q
+      bytes j f h = sym (byte-pos (f p)) ∙ ap (λ (l : List ℤ). map byte l) (sym (h p) ∙ group j ∙ h q) ∙ byte-pos (f q)
+
+      laid : {A : Type 0} {flat : A → List ℕ} {make : List ℕ → A} {n : ℕ} {Good : A → Type 0} → Laid flat make n Good
+          → (x y : A) → Good x → Good y → flat x ≡ flat y → x ≡ y
+      laid {A} {flat} {make} law x y g h e =
+          sym (law .back x g []) ∙ ap {B = A} (λ l. make (l ++ [])) e ∙ law .back y h []
+
+  -- so two parsers of the right shape that keep the same numbers are the same
+  pub numbers-are-all : ((i : ℕ) → kept p i ≡ kept q i) → p ≡ q
+  unfolding kept
+  numbers-are-all h = same-numbers (ext-getD (pos 0) (numbers p) (numbers q) (how-many p s ∙ sym (how-many q t)) (λ i l. h i))
+
+-- calls keep the shape, so it holds of every parser that calls make of the fresh one
+pub sized-after : (p : Parser) (xs : List (List ℕ)) → Sized p → Sized (after p xs)
+unfolding after
+sized-after p [] s = s
+sized-after p (x ∷ xs) s = sized-after (call p x .parser) xs (sized-call p x s)
+
+-- a parser that keeps the last writers' numbers is the one that the calls leave, and no other
+pub only : (q : Parser) (xs : List (List ℕ)) → Sized q
+    → ((i : ℕ) → kept q i ≡ or (last (map (λ f. writes f i) (since xs))) (kept fresh i)) → q ≡ after fresh xs
+only q xs s h = numbers-are-all q (after fresh xs) s (sized-after fresh xs sized-fresh) (λ i. h i ∙ sym (last-writer xs i))

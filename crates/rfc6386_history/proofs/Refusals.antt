@@ -1,0 +1,262 @@
+-- A call answers as document 01's table of refusals says: by cases on each test of the definition, taken apart once. What each refusal
+-- leaves and its exact cause are then read off the table. Assumes nothing.
+use Prim.Native.Nat.{ℕ, _+_, _-_, _*_, _^_, _<_}
+use native.Mathlib.Omega.{arith}
+use mathlib.Core.Logic.{_↔_}
+use mathlib.Core.Path.{_≡_, refl, sym, ap, _∙_}
+use mathlib.Core.Bool.{Bool, true, false, not, _&&_, _||_}
+use mathlib.Core.Option.{none, some}
+use mathlib.Core.List.{List, [], _∷_, map}
+use lib.Dec.{ltb, eqb}
+use lib.ListN.{length, getD}
+use borrow.Author.Tests.{eqb-true, eq-eqb}
+use Rattle.vp8_records.specs.declared.Parser.{Parser}
+use Rattle.vp8_records.specs.declared.Parsed.{Parsed}
+use Rattle.vp8_records.specs.declared.Outcome.{Outcome}
+use Rattle.vp8_records.specs.declared.Outcome.the-variants.{Accepted, ChunkTooShort, InvalidStartCode, InvalidPartitionSize, EmptyArea, EndOfHeader, FrameTooLong}
+use Rattle.vp8_records.specs.Outcome.{numberOf}
+use Rattle.vp8_records.specs.Start.{fresh, blank}
+use Rattle.rfc6386.specs.Bytes.{le2, le3}
+use Rattle.rfc6386.specs.Decoder.{bits, start, pick}
+use Rattle.rfc6386.specs.Reads.{run}
+use Rattle.rfc6386.specs.Coded.{Coded, header}
+use Rattle.rfc6386.specs.Frame.{Chunk, tagged, Opened, shut, opened, keyChunk, chunk, Snapshot, codedSizes, sum, sizes, beyond, empty, read, headed, body, follows, inside, decode}
+use Rattle.rfc6386.specs.Call.{apply, cleared, answer, finish, call}
+use Rattle.rfc6386_history.specs.Refusals.{keyOf, rightCode, tooLong, tooShort, otherCode, chunkSize, area, firstSize, beyondEnd, isEmpty, coded, sizesBeyond, afterChunk, outcomeOf, left, headOf, opens, Exactly}
+
+-- the answer a is the table's for the outcome o
+abbrev pub Told : Parsed → Outcome → Bool → Coded → Parser → Type 0
+Told a o key c p = a ≡ answer o (headOf o (a .header)) (left o key c p)
+
+-- the definition's chunk by its tests: too long, under 3, key frame, under 6, right start code, under 10
+abbrev chunkBy : List ℕ → Bool → Bool → Bool → Bool → Bool → Bool → Opened
+chunkBy f a b key d e g = elim a [
+  | true ↦ shut (FrameTooLong (length f))
+  | false ↦ elim b [
+    | true ↦ shut ChunkTooShort
+    | false ↦ elim key [
+      | true ↦ elim d [
+        | true ↦ shut ChunkTooShort
+        | false ↦ elim e [
+          | false ↦ shut (InvalidStartCode (le3 f 3))
+          | true ↦ elim g [ true ↦ shut ChunkTooShort | false ↦ opened (tagged (le3 f 0) true 10 (le2 f 6) (le2 f 8)) ]
+        ]
+      ]
+      | false ↦ opened (tagged (le3 f 0) false 3 0 0)
+    ]
+  ]
+]
+
+-- a chunk is opened where 6, 1 and 2 do not refuse, and knows its kind
+abbrev pub Opens : Opened → Bool → Bool → Type 0
+Opens (shut o) key valid = valid ≡ false
+Opens (opened k) key valid = (k .key ≡ key) × (valid ≡ true)
+
+pub chunk-opens : (f : List ℕ) → Opens (chunk f) (keyOf f) (opens f)
+unfolding chunk keyChunk
+chunk-opens f = go (tooLong f) (ltb (length f) 3) (keyOf f) (ltb (length f) 6) (rightCode f) (ltb (length f) 10)
+  where
+    go : (a b key d e g : Bool) → Opens (chunkBy f a b key d e g) key (not (a || (b || key && (d || e && g)) || key && not d && not e))
+    go true b key d e g = refl
+    go false true key d e g = refl
+    go false false false d e g = (refl, refl)
+    go false false true true e g = refl
+    go false false true false false g = refl
+    go false false true false true true = refl
+    go false false true false true false = (refl, refl)
+
+module _ (p : Parser) where
+  -- a header read to its end
+  told-read : (k : Chunk) (c : Coded) (s : Snapshot) (n : ℕ) (xs : List ℕ) (first : ℕ)
+      → let from = first + 3 * (n - 1) in
+      let beyond = ltb (length xs) from || ltb (length xs) (from + sum (codedSizes (n - 1) xs first)) in
+      Told (finish (follows k (read c s (sizes n xs first))) p) (pick beyond EndOfHeader Accepted) (k .key) c p
+  unfolding sizes
+  told-read k c s n xs first = go (ltb (length xs) _) (ltb (length xs) _) _
+    where
+      go : (a b : Bool) (ss : List ℕ)
+          → Told (finish (follows k (read c s (elim a [ true ↦ none | false ↦ elim b [ true ↦ none | false ↦ some ss ] ]))) p)
+          (pick (a || b) EndOfHeader Accepted) (k .key) c p
+      go true b ss = refl
+      go false true ss = refl
+      go false false ss = refl
+
+  -- what follows the chunk
+  module _ (f : List ℕ) where
+    told-after : (key : Bool) (w h : ℕ)
+        → let k = tagged (le3 f 0) key (chunkSize key) w h in Told (finish (follows k (body k f)) p) (afterChunk key f) key (coded key f) p
+    unfolding body headed coded
+    told-after key w h = go (beyondEnd key f) (area key f)
+      where
+        k : Chunk
+        k = tagged (le3 f 0) key (chunkSize key) w h
+
+        got : List ℕ → Coded
+        got xs = run (header key) (bits xs) (start xs) .got
+
+        beyondIn : List ℕ → Bool
+        beyondIn xs =
+            let n = 2 ^ got xs .log2parts in
+            let from = firstSize f + 3 * (n - 1) in
+            ltb (length xs) from || ltb (length xs) (from + sum (codedSizes (n - 1) xs (firstSize f)))
+
+        go : (a : Bool) (xs : List ℕ)
+            → Told
+            (finish
+            (follows k
+            (elim a [
+              | true ↦ beyond (chunkSize key + firstSize f) (length f)
+              | false ↦ elim xs [ [] ↦ empty | b ∷ bs ↦ headed k (b ∷ bs) (run (header key) (bits (b ∷ bs)) (start (b ∷ bs))) ]
+            ]))
+            p)
+            (pick a (InvalidPartitionSize (chunkSize key + firstSize f) (length f)) (pick (isEmpty xs) EmptyArea (pick (beyondIn xs) EndOfHeader Accepted)))
+            key (got xs) p
+        go true xs = refl
+        go false [] = refl
+        go false (b ∷ bs) = told-read k (got (b ∷ bs)) _ (2 ^ got (b ∷ bs) .log2parts) (b ∷ bs) (firstSize f)
+
+    -- every call
+    pub told : Told (call p f) (outcomeOf f) (keyOf f) (coded (keyOf f) f) p
+    unfolding call decode chunk keyChunk outcomeOf
+    told = go (tooLong f) (ltb (length f) 3) (keyOf f) (ltb (length f) 6) (rightCode f) (ltb (length f) 10)
+      where
+        go : (a b key d e g : Bool)
+            → Told (finish (inside (chunkBy f a b key d e g) f) p)
+            (pick a (FrameTooLong (length f))
+            (pick (b || key && (d || e && g)) ChunkTooShort (pick (key && not d && not e) (InvalidStartCode (le3 f 3)) (afterChunk key f))))
+            key (coded key f) p
+        go true b key d e g = refl
+        go false true key d e g = refl
+        go false false false d e g = told-after false 0 0
+        go false false true true e g = refl
+        go false false true false false g = refl
+        go false false true false true true = refl
+        go false false true false true false = told-after true (le2 f 6) (le2 f 8)
+
+-- the table by its causes, in order
+abbrev outcomeBy : List ℕ → Bool → Bool → Bool → Bool → Bool → Bool → Outcome
+outcomeBy f a b c d e g =
+    pick a (FrameTooLong (length f))
+    (pick b ChunkTooShort
+    (pick c (InvalidStartCode (le3 f 3))
+    (pick d (InvalidPartitionSize (chunkSize (keyOf f) + firstSize f) (length f)) (pick e EmptyArea (pick g EndOfHeader Accepted)))))
+
+-- an outcome with the numbers of the column "Carries"
+abbrev carrying : List ℕ → Outcome → Outcome
+carrying f (FrameTooLong n) = FrameTooLong (length f)
+carrying f ChunkTooShort = ChunkTooShort
+carrying f (InvalidStartCode code) = InvalidStartCode (le3 f 3)
+carrying f (InvalidPartitionSize end n) = InvalidPartitionSize (chunkSize (keyOf f) + firstSize f) (length f)
+carrying f EmptyArea = EmptyArea
+carrying f EndOfHeader = EndOfHeader
+carrying f Accepted = Accepted
+
+-- whether what an outcome leaves starts from the fresh parser
+abbrev pub resets : Outcome → Bool → Bool
+resets (FrameTooLong n) key = false
+resets ChunkTooShort key = false
+resets (InvalidStartCode code) key = false
+resets (InvalidPartitionSize end n) key = key
+resets EmptyArea key = key
+resets EndOfHeader key = key
+resets Accepted key = key
+
+-- what the causes say of the outcome: which of the seven numbers it has, what it carries, whether it resets
+record Rows (f : List ℕ) (a b c d e g : Bool) : Type 0 where
+  numbers : map (λ m. eqb (numberOf (outcomeBy f a b c d e g)) m) (6 ∷ 1 ∷ 2 ∷ 3 ∷ 4 ∷ 5 ∷ 0 ∷ [])
+      ≡ a ∷ (not a && b) ∷ (not (a || b) && c) ∷ (not (a || b || c) && d) ∷ (not (a || b || c) && not d && e)
+      ∷ (not (a || b || c) && not (d || e) && g) ∷ (not (a || b || c) && not (d || e || g)) ∷ []
+  carries : outcomeBy f a b c d e g ≡ carrying f (outcomeBy f a b c d e g)
+  resetting : not (a || b || c) && keyOf f ≡ resets (outcomeBy f a b c d e g) (keyOf f)
+
+rows : (f : List ℕ) (a b c d e g : Bool) → Rows f a b c d e g
+rows f true b c d e g = record { numbers = refl; carries = refl; resetting = refl }
+rows f false true c d e g = record { numbers = refl; carries = refl; resetting = refl }
+rows f false false true d e g = record { numbers = refl; carries = refl; resetting = refl }
+rows f false false false true e g = record { numbers = refl; carries = refl; resetting = refl }
+rows f false false false false true g = record { numbers = refl; carries = refl; resetting = refl }
+rows f false false false false false true = record { numbers = refl; carries = refl; resetting = refl }
+rows f false false false false false false = record { numbers = refl; carries = refl; resetting = refl }
+
+rows-of : (f : List ℕ)
+    → Rows f (tooLong f) (tooShort f) (otherCode f) (beyondEnd (keyOf f) f) (isEmpty (area (keyOf f) f)) (sizesBeyond (keyOf f) f)
+rows-of f = rows f _ _ _ _ _ _
+
+pub resets-opened : (f : List ℕ) → opens f && keyOf f ≡ resets (outcomeOf f) (keyOf f)
+unfolding outcomeOf
+resets-opened f = rows-of f .resetting
+
+module _ (p : Parser) (f : List ℕ) where
+  -- the columns "Exactly when" and "Carries"
+  pub outcome-is : call p f .outcome ≡ outcomeOf f
+  outcome-is = ap (λ (a : Parsed). a .outcome) (told p f)
+
+  -- the column "State left"
+  pub left-is : call p f .parser ≡ left (outcomeOf f) (keyOf f) (coded (keyOf f) f) p
+  left-is = ap (λ (a : Parsed). a .parser) (told p f)
+
+  -- the outcome o with what the row of q leaves
+  abbrev said : Outcome → Outcome → Parsed
+  said o q = answer o (headOf q (call p f .header)) (left q (keyOf f) (coded (keyOf f) f) p)
+
+  row : (o : Outcome) → call p f .outcome ≡ o → call p f ≡ said (carrying f o) o
+  unfolding outcomeOf
+  row o e =
+      let is : outcomeOf f ≡ o = sym outcome-is ∙ e in
+      told p f ∙ ap (λ (x : Outcome). said x (outcomeOf f)) (rows-of f .carries) ∙ ap (λ (x : Outcome). said (carrying f x) x) is
+
+  -- what each refusal carries and leaves, row by row
+  pub refused-6 : (n : ℕ) → call p f .outcome ≡ FrameTooLong n → call p f ≡ answer (FrameTooLong (length f)) blank p
+  refused-6 n = row (FrameTooLong n)
+
+  pub refused-1 : call p f .outcome ≡ ChunkTooShort → call p f ≡ answer ChunkTooShort blank p
+  refused-1 = row ChunkTooShort
+
+  pub refused-2 : (code : ℕ) → call p f .outcome ≡ InvalidStartCode code → call p f ≡ answer (InvalidStartCode (le3 f 3)) blank p
+  refused-2 code = row (InvalidStartCode code)
+
+  pub refused-3 : (end n : ℕ) → call p f .outcome ≡ InvalidPartitionSize end n
+      → call p f ≡ answer (InvalidPartitionSize (chunkSize (keyOf f) + firstSize f) (length f)) blank (pick (keyOf f) fresh p)
+  refused-3 end n = row (InvalidPartitionSize end n)
+
+  pub refused-4 : call p f .outcome ≡ EmptyArea → call p f ≡ answer EmptyArea blank (pick (keyOf f) fresh (cleared p))
+  refused-4 = row EmptyArea
+
+  pub refused-5 : call p f .outcome ≡ EndOfHeader → call p f ≡ answer EndOfHeader blank (apply (coded (keyOf f) f) (pick (keyOf f) fresh p))
+  refused-5 = row EndOfHeader
+
+  -- and what an accepted frame leaves
+  pub accepted-leaves : call p f .outcome ≡ Accepted → call p f .parser ≡ apply (coded (keyOf f) f) (pick (keyOf f) fresh p)
+  accepted-leaves e = ap (λ (a : Parsed). a .parser) (row Accepted e)
+
+  -- every refusal has the blank header
+  pub refused-blank : 0 < numberOf (call p f .outcome) → call p f .header ≡ blank
+  refused-blank h = ap (λ (a : Parsed). a .header) (told p f) ∙ go (outcomeOf f) (rw outcome-is at h)
+    where
+      go : (o : Outcome) → 0 < numberOf o → headOf o (call p f .header) ≡ blank
+      go Accepted n = absurd (omega arith)
+      go ChunkTooShort n = refl
+      go (InvalidStartCode code) n = refl
+      go (InvalidPartitionSize end m) n = refl
+      go EmptyArea n = refl
+      go EndOfHeader n = refl
+      go (FrameTooLong m) n = refl
+
+  decided : (n : ℕ) (b : Bool) → eqb (numberOf (outcomeOf f)) n ≡ b → (numberOf (call p f .outcome) ≡ n) ↔ (b ≡ true)
+  decided n b e = rw outcome-is (λ h. sym e ∙ eq-eqb _ n h, λ h. eqb-true _ n (e ∙ h))
+
+  -- every refusal has its one cause
+  pub exactly : Exactly p f
+  unfolding outcomeOf
+  exactly =
+      let at : ℕ → List Bool → Bool = λ i bs. getD bs i false in
+      let m = rows-of f .numbers in
+      record {
+        six = decided 6 _ (ap (at 0) m);
+        one = decided 1 _ (ap (at 1) m);
+        two = decided 2 _ (ap (at 2) m);
+        three = decided 3 _ (ap (at 3) m);
+        four = decided 4 _ (ap (at 4) m);
+        five = decided 5 _ (ap (at 5) m);
+        accepted = decided 0 _ (ap (at 6) m);
+      }

@@ -1,0 +1,129 @@
+-- One call: a cutter forgets what was kept, and any frame writes what document 01 says over what it started from. By cases on the
+-- outcome, with the refusal table. Assumes nothing.
+use Prim.Native.Nat.{ℕ, zero-le, _≤_}
+use native.Mathlib.Omega.{arith}
+use mathlib.Core.Path.{_≡_, refl, sym, ap, _∙_}
+use mathlib.Core.Bool.{Bool, true, false, false≢true, not, _&&_, _||_, and-false}
+use mathlib.Core.Option.{Option}
+use mathlib.Core.List.{List, []}
+use lib.Dec.{ltb, lit≤}
+use lib.IntN.{ℤ, pos}
+use lib.ListN.{length, getD}
+use borrow.Author.Tests.{ltb-true, lt-ltb}
+use Rattle.vp8_records.specs.declared.Parser.{Parser}
+use Rattle.vp8_records.specs.declared.Outcome.{Outcome}
+use Rattle.vp8_records.specs.declared.Outcome.the-variants.{Accepted, ChunkTooShort, InvalidStartCode, InvalidPartitionSize, EmptyArea, EndOfHeader, FrameTooLong}
+use Rattle.vp8_records.specs.Layout.{joined}
+use Rattle.vp8_records.specs.Start.{fresh}
+use Rattle.rfc6386.specs.Decoder.{pick}
+use Rattle.rfc6386.specs.Runs.{or, over}
+use Rattle.rfc6386.specs.Coded.{Coded}
+use Rattle.rfc6386.specs.Frame.{Chunk, Opened, shut, opened, chunk, Body, beyond, empty, read, body, follows, inside, decode}
+use Rattle.rfc6386.specs.Call.{cleared, finish, call}
+use Rattle.rfc6386_history.specs.Refusals.{keyOf, rightCode, tooLong, opens, coded, outcomeOf, left}
+use Rattle.rfc6386_history.specs.Kept.{numbers, kept}
+use Rattle.rfc6386_history.specs.Shape.{Sized}
+use Rattle.rfc6386_history.specs.History.{cutter, wrote, writes}
+use Rattle.rfc6386_history.proofs.Runs.{getD-over}
+use Rattle.rfc6386_history.proofs.Writes.{applied, sized-fresh, sized-apply, sized-cleared}
+use Rattle.rfc6386_history.proofs.Refusals.{Opens, chunk-opens, resets, resets-opened, left-is}
+
+-- a cutter is a key frame that 6, 1 and 2 do not refuse
+pub cutter-opens : (f : List ℕ) → cutter f ≡ opens f && keyOf f
+cutter-opens f =
+    go (tooLong f) (ltb (length f) 3) (keyOf f) (ltb (length f) 6) (rightCode f) (ltb (length f) 10)
+    (fewer 3 (lit≤ tt)) (fewer 6 (lit≤ tt))
+  where
+    fewer : (m : ℕ) → m ≤ 10 → ltb (length f) m ≡ true → ltb (length f) 10 ≡ true
+    fewer m n h = lt-ltb (length f) 10 (omega (arith, ltb-true (length f) m h))
+
+    go : (a b key d e g : Bool) → (b ≡ true → g ≡ true) → (d ≡ true → g ≡ true)
+        → (key && not a && not g && e) ≡ (not (a || (b || key && (d || e && g)) || key && not d && not e) && key)
+    go a b false d e g m n = sym (and-false (not (a || (b || false) || false)))
+    go true b true d e g m n = refl
+    go false true true d e true m n = refl
+    go false true true d e false m n = absurd (false≢true (m refl))
+    go false false true true e true m n = refl
+    go false false true true e false m n = absurd (false≢true (n refl))
+    go false false true false true true m n = refl
+    go false false true false true false m n = refl
+    go false false true false false true m n = refl
+    go false false true false false false m n = refl
+
+pub forgets-body : (p q : Parser) (k : Chunk) (b : Body) → k .key ≡ true → finish (follows k b) p ≡ finish (follows k b) q
+forgets-body p q k (beyond end n) h = rw h
+forgets-body p q k empty h = rw h
+forgets-body p q k (read c s ss) h = rw h
+
+-- a cutter's answer and state are the same, whatever was kept
+pub forgets : (p q : Parser) (f : List ℕ) → cutter f ≡ true → call p f ≡ call q f
+unfolding call decode
+forgets p q f h = go (chunk f) (opens f) (chunk-opens f) (sym (cutter-opens f) ∙ h)
+  where
+    go : (x : Opened) (o : Bool) → Opens x (keyOf f) o → o && keyOf f ≡ true → finish (inside x f) p ≡ finish (inside x f) q
+    go (shut o) b e h = absurd (false≢true (rw e at h))
+    go (opened k) b e h = forgets-body p q k (body k f) (e .0 ∙ (rw (e .1) at h))
+
+-- what is left starts from the fresh parser just after a cutter
+cutter-resets : (f : List ℕ) → cutter f ≡ resets (outcomeOf f) (keyOf f)
+cutter-resets f = cutter-opens f ∙ resets-opened f
+
+sized-base : (key : Bool) (p : Parser) → Sized p → Sized (pick key fresh p)
+sized-base true p s = sized-fresh
+sized-base false p s = s
+
+sized-empty : (key : Bool) (p : Parser) → Sized p → Sized (pick key fresh (cleared p))
+sized-empty true p s = sized-fresh
+sized-empty false p s = sized-cleared p s
+
+sized-left : (o : Outcome) (key : Bool) (c : Coded) (p : Parser) → Sized p → Sized (left o key c p)
+sized-left (FrameTooLong n) key c p s = s
+sized-left ChunkTooShort key c p s = s
+sized-left (InvalidStartCode code) key c p s = s
+sized-left (InvalidPartitionSize end n) key c p s = sized-base key p s
+sized-left EmptyArea key c p s = sized-empty key p s
+sized-left EndOfHeader key c p s = sized-apply c (pick key fresh p) (sized-base key p s)
+sized-left Accepted key c p s = sized-apply c (pick key fresh p) (sized-base key p s)
+
+-- a call keeps the shape
+pub sized-call : (p : Parser) (f : List ℕ) → Sized p → Sized (call p f .parser)
+sized-call p f s = rw (left-is p f) (sized-left (outcomeOf f) (keyOf f) (coded (keyOf f) f) p s)
+
+-- us, at most as many as the numbers of p, written over them give those of q
+record Moves (us : List (Option ℤ)) (p q : Parser) : Type 0 where
+  fits : length us ≤ length (numbers p)
+  is : over us (numbers p) ≡ numbers q
+
+moves-none : (p : Parser) → Moves [] p p
+unfolding over
+moves-none p = record { fits = zero-le; is = refl }
+
+moves-empty : (key : Bool) (c : Coded) (p : Parser) → Moves (wrote EmptyArea key c) (pick key fresh p) (pick key fresh (cleared p))
+unfolding over numbers joined cleared
+moves-empty true c p = moves-none fresh
+moves-empty false c p = record { fits = omega arith; is = refl }
+
+moves-all : (key : Bool) (c : Coded) (p : Parser) → Sized p → Moves (wrote Accepted key c) (pick key fresh p) (left Accepted key c p)
+moves-all key c p s =
+    let w = applied c (pick key fresh p) (sized-base key p s) in
+    record { fits = omega (arith, w .same); is = w .is }
+
+moves : (o : Outcome) (key : Bool) (c : Coded) (p : Parser) → Sized p → Moves (wrote o key c) (pick (resets o key) fresh p) (left o key c p)
+moves (FrameTooLong n) key c p s = moves-none p
+moves ChunkTooShort key c p s = moves-none p
+moves (InvalidStartCode code) key c p s = moves-none p
+moves (InvalidPartitionSize end n) key c p s = moves-none (pick key fresh p)
+moves EmptyArea key c p s = moves-empty key c p
+moves EndOfHeader key c p s = moves-all key c p s
+moves Accepted key c p s = moves-all key c p s
+
+-- a number after a call: what the frame writes to it, or else what the frame started from
+pub writes-one : (p : Parser) (f : List ℕ) (i : ℕ) → Sized p
+    → kept (call p f .parser) i ≡ or (writes f i) (kept (pick (cutter f) fresh p) i)
+unfolding kept writes
+writes-one p f i s =
+    let us = wrote (outcomeOf f) (keyOf f) (coded (keyOf f) f) in
+    let from = pick (resets (outcomeOf f) (keyOf f)) fresh p in
+    let m = moves (outcomeOf f) (keyOf f) (coded (keyOf f) f) p s in
+    rw (left-is p f, cutter-resets f)
+    (ap (λ (ns : List ℤ). getD ns i (pos 0)) (sym (m .is)) ∙ getD-over us (numbers from) i (pos 0) (m .fits))

@@ -1,0 +1,126 @@
+-- Document 01's table of refusals ("Refusal numbers, in order of checking"), from the bytes of a frame: `outcomeOf` is its columns
+-- "Exactly when" and "Carries", `left` its column "State left". proofs/Refusals.antt shows that every call is as it says.
+use Prim.Native.Nat.{ℕ, _+_, _-_, _*_, _/_, _%_, _^_}
+use mathlib.Core.Logic.{_↔_}
+use mathlib.Core.Path.{_≡_}
+use mathlib.Core.Bool.{Bool, true, false, not, _&&_, _||_}
+use mathlib.Core.List.{List, [], _∷_}
+use lib.Dec.{leb, ltb, eqb}
+use lib.ListN.{length, drop}
+use Rattle.vp8_records.specs.declared.Parser.{Parser}
+use Rattle.vp8_records.specs.declared.Header.{Header}
+use Rattle.vp8_records.specs.declared.Outcome.{Outcome}
+use Rattle.vp8_records.specs.declared.Outcome.the-variants.{Accepted, ChunkTooShort, InvalidStartCode, InvalidPartitionSize, EmptyArea, EndOfHeader, FrameTooLong}
+use Rattle.vp8_records.specs.Outcome.{numberOf}
+use Rattle.vp8_records.specs.Start.{fresh, blank}
+use Rattle.rfc6386.specs.Bytes.{le3}
+use Rattle.rfc6386.specs.Decoder.{bits, start, pick}
+use Rattle.rfc6386.specs.Reads.{run}
+use Rattle.rfc6386.specs.Coded.{Coded, header}
+use Rattle.rfc6386.specs.Frame.{codedSizes, sum}
+use Rattle.rfc6386.specs.Call.{apply, cleared, call}
+
+-- bit 0 of the tag is clear
+abbrev pub keyOf : List ℕ → Bool
+keyOf f = eqb (le3 f 0 % 2) 0
+
+abbrev pub rightCode : List ℕ → Bool
+rightCode f = eqb (le3 f 3) 0x2a019d
+
+-- 6
+abbrev pub tooLong : List ℕ → Bool
+tooLong f = leb (2 ^ 28) (length f)
+
+-- 1: under 3 bytes; key frame under 6, or under 10 with a right start code
+abbrev pub tooShort : List ℕ → Bool
+tooShort f = ltb (length f) 3 || keyOf f && (ltb (length f) 6 || rightCode f && ltb (length f) 10)
+
+-- 2: key frame of 6 or more bytes, other start code
+abbrev pub otherCode : List ℕ → Bool
+otherCode f = keyOf f && not (ltb (length f) 6) && not (rightCode f)
+
+-- the chunk of a key frame, or of another; what follows is the area
+abbrev pub chunkSize : Bool → ℕ
+chunkSize key = pick key 10 3
+
+abbrev pub area : Bool → List ℕ → List ℕ
+area key f = drop (chunkSize key) f
+
+-- bits 5 to 23 of the tag
+abbrev pub firstSize : List ℕ → ℕ
+firstSize f = le3 f 0 / 32
+
+-- 3: chunk + first_part_size > length
+abbrev pub beyondEnd : Bool → List ℕ → Bool
+beyondEnd key f = ltb (length f) (chunkSize key + firstSize f)
+
+-- 4: area empty
+abbrev pub isEmpty : List ℕ → Bool
+isEmpty [] = true
+isEmpty (x ∷ xs) = false
+
+-- the coded fields, read over the area
+unfoldable pub coded : Bool → List ℕ → Coded
+coded key f = run (header key) (bits (area key f)) (start (area key f)) .got
+
+abbrev pub partitions : Bool → List ℕ → ℕ
+partitions key f = 2 ^ coded key f .log2parts
+
+-- the size bytes' end in the area, and the sizes that they code
+abbrev pub sizesEnd : Bool → List ℕ → ℕ
+sizesEnd key f = firstSize f + 3 * (partitions key f - 1)
+
+abbrev pub codedOf : Bool → List ℕ → List ℕ
+codedOf key f = codedSizes (partitions key f - 1) (area key f) (firstSize f)
+
+-- 5: first_part_size + 3(n − 1), or that plus the n − 1 sizes, > area
+abbrev pub sizesBeyond : Bool → List ℕ → Bool
+sizesBeyond key f = ltb (length (area key f)) (sizesEnd key f) || ltb (length (area key f)) (sizesEnd key f + sum (codedOf key f))
+
+-- 3, 4 and 5, with what they carry
+abbrev pub afterChunk : Bool → List ℕ → Outcome
+afterChunk key f =
+    pick (beyondEnd key f) (InvalidPartitionSize (chunkSize key + firstSize f) (length f))
+    (pick (isEmpty (area key f)) EmptyArea (pick (sizesBeyond key f) EndOfHeader Accepted))
+
+-- all six, in order of checking
+unfoldable pub outcomeOf : List ℕ → Outcome
+outcomeOf f =
+    pick (tooLong f) (FrameTooLong (length f))
+    (pick (tooShort f) ChunkTooShort (pick (otherCode f) (InvalidStartCode (le3 f 3)) (afterChunk (keyOf f) f)))
+
+-- the state left, for a key frame or another with these coded fields; it is "as after the header" for 5 and for an accepted frame
+abbrev pub left : Outcome → Bool → Coded → Parser → Parser
+left (FrameTooLong n) key c p = p
+left ChunkTooShort key c p = p
+left (InvalidStartCode code) key c p = p
+left (InvalidPartitionSize end n) key c p = pick key fresh p
+left EmptyArea key c p = pick key fresh (cleared p)
+left EndOfHeader key c p = apply c (pick key fresh p)
+left Accepted key c p = apply c (pick key fresh p)
+
+-- a refusal has the blank header
+abbrev pub headOf : Outcome → Header → Header
+headOf Accepted h = h
+headOf ChunkTooShort h = blank
+headOf (InvalidStartCode code) h = blank
+headOf (InvalidPartitionSize end n) h = blank
+headOf EmptyArea h = blank
+headOf EndOfHeader h = blank
+headOf (FrameTooLong n) h = blank
+
+-- 6, 1 and 2 do not refuse it: its chunk is valid
+abbrev pub opens : List ℕ → Bool
+opens f = not (tooLong f || tooShort f || otherCode f)
+
+-- each number exactly when its row's cause holds and no earlier row's does
+pub record Exactly (p : Parser) (f : List ℕ) : Type 0 where
+  pub six : (numberOf (call p f .outcome) ≡ 6) ↔ (tooLong f ≡ true)
+  pub one : (numberOf (call p f .outcome) ≡ 1) ↔ (not (tooLong f) && tooShort f ≡ true)
+  pub two : (numberOf (call p f .outcome) ≡ 2) ↔ (not (tooLong f || tooShort f) && otherCode f ≡ true)
+  pub three : (numberOf (call p f .outcome) ≡ 3) ↔ (opens f && beyondEnd (keyOf f) f ≡ true)
+  pub four : (numberOf (call p f .outcome) ≡ 4) ↔ (opens f && not (beyondEnd (keyOf f) f) && isEmpty (area (keyOf f) f) ≡ true)
+  pub five : (numberOf (call p f .outcome) ≡ 5)
+      ↔ (opens f && not (beyondEnd (keyOf f) f || isEmpty (area (keyOf f) f)) && sizesBeyond (keyOf f) f ≡ true)
+  pub accepted : (numberOf (call p f .outcome) ≡ 0)
+      ↔ (opens f && not (beyondEnd (keyOf f) f || isEmpty (area (keyOf f) f) || sizesBeyond (keyOf f) f) ≡ true)
