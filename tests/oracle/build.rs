@@ -1,0 +1,33 @@
+//! Puts the Rust as given into OUT_DIR, twice: unchanged, and with one line that counts bools.
+
+#[path = "src/assemble.rs"]
+mod assemble;
+
+use std::path::{Path, PathBuf};
+
+fn main() {
+    println!("cargo:rerun-if-env-changed=SILLBROOK_RUST_SRC");
+    println!("cargo:rerun-if-changed=build.rs");
+    println!("cargo:rerun-if-changed=src/assemble.rs");
+    let here = PathBuf::from(std::env::var("CARGO_MANIFEST_DIR").expect("set by cargo"));
+    let out = PathBuf::from(std::env::var("OUT_DIR").expect("set by cargo"));
+    let from = std::env::var("SILLBROOK_RUST_SRC")
+        .unwrap_or_else(|_| stop("SILLBROOK_RUST_SRC is not set; call tests/oracle/run"));
+    for name in assemble::FILES {
+        println!("cargo:rerun-if-changed={}", Path::new(&from).join(name).display());
+    }
+    let given = assemble::Given::read(Path::new(&from)).unwrap_or_else(|why| stop(&why));
+    let access = here.join("src/access.rs");
+    write(&out.join("plain.rs"), &given.modules("crate::", &access));
+    let counted = given.counted().unwrap_or_else(|why| stop(&why));
+    write(&out.join("counted.rs"), &counted.modules("crate::counted::", &access));
+}
+
+fn write(path: &Path, text: &str) {
+    std::fs::write(path, text).unwrap_or_else(|why| stop(&format!("{}: {why}", path.display())));
+}
+
+fn stop(why: &str) -> ! {
+    eprintln!("{why}");
+    std::process::exit(1)
+}

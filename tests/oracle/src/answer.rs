@@ -1,0 +1,46 @@
+//! The answer to one frame as plain numbers: what is dumped, stored and compared.
+
+pub const KEPT: usize = 1126;
+pub const PROBS: usize = 1101;
+pub const COEFFS: usize = 1056;
+pub const MOTION: usize = 38;
+
+/// The header's numbers in the order of the dump line, with their bytes in frames.bin.
+pub const NUMBERS: [(&str, usize); 50] = [
+    ("key", 1), ("ver", 1), ("show", 1), ("chunk", 1), ("first", 4), ("w", 2), ("h", 2),
+    ("hs", 1), ("vs", 1), ("cs", 1), ("ct", 1), ("ft", 1), ("lvl", 1), ("sharp", 1), ("n", 1), ("log2", 1),
+    ("part0", 4), ("part1", 4), ("part2", 4), ("part3", 4), ("part4", 4), ("part5", 4), ("part6", 4), ("part7", 4),
+    ("q0", 1), ("q1", 1), ("q2", 1), ("q3", 1), ("q4", 1), ("q5", 1),
+    ("rep", 1), ("rl", 1), ("rg", 1), ("ra", 1), ("cg", 1), ("ca", 1), ("sg", 1), ("sa", 1),
+    ("skip", 1), ("psf", 1), ("pi", 1), ("pl", 1), ("pg", 1),
+    ("range", 1), ("value", 1), ("count", 1), ("hsize", 4), ("bools", 4), ("cols", 2), ("rows", 2),
+];
+
+pub const BOOLS: usize = 47;
+
+/// Where a number of that name stands.
+pub fn at(name: &str) -> usize {
+    NUMBERS.iter().position(|(n, _)| *n == name).unwrap_or_else(|| panic!("no header number {name}"))
+}
+
+#[derive(Clone, Debug, Default, PartialEq, Eq)]
+pub struct Answer {
+    /// 0 where the frame is accepted.
+    pub refusal: u8,
+    pub a: u32,
+    pub b: u32,
+    /// Empty in a refusal.
+    pub numbers: Vec<i64>,
+    /// 1,056 coefficients, 38 motion and 7 modes of the header; empty in a refusal.
+    pub probs: Vec<u8>,
+    /// The parser's kept numbers after the call.
+    pub kept: Vec<u8>,
+    /// How many bytes of the frame the answer shows.
+    pub view: usize,
+}
+
+impl Answer {
+    pub fn get(&self, name: &str) -> i64 {
+        self.numbers[at(name)]
+    }
+}

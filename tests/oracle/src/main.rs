@@ -1,0 +1,302 @@
+//! The Rust as given, asked for its answers; see README.md. Called by `tests/oracle/run`.
+
+// The Rust says `log::debug`; this program plays that crate, and its one macro does nothing.
+extern crate self as log;
+
+#[macro_export]
+macro_rules! debug {
+    ($($any:tt)*) => {};
+}
+
+// The Rust unchanged, as `crate::bitstream_utils` and `crate::codec`.
+include!(concat!(env!("OUT_DIR"), "/plain.rs"));
+
+/// The Rust with one line more, in `read_bit`, which counts bools.
+pub mod counted {
+    include!(concat!(env!("OUT_DIR"), "/counted.rs"));
+}
+
+mod answer;
+// Half of it serves build.rs only.
+#[allow(dead_code)]
+mod assemble;
+mod bare;
+mod encode;
+mod engine;
+mod gen;
+mod list;
+mod replay;
+mod rng;
+mod rules;
+mod slips;
+mod spec;
+mod stats;
+mod tally;
+
+use answer::{Answer, COEFFS, MOTION, NUMBERS};
+use engine::Engine;
+use rng::Rng;
+use std::io::{BufRead, Read, Write};
+use std::path::PathBuf;
+
+const USAGE: &str = "usage: tests/oracle/run COMMAND
+  dump                       answers to frame records on standard input, one line a frame
+  bools                      answers to scripts on standard input, one line a script
+  check                      holds the Rust against document 01 on frame records on standard input
+  gen frames --seed S --count N [--streams DIR]   writes frame records
+  gen bools --seed S --count N                    writes scripts
+  list                       writes the fixed list of frames (needs the recordings)
+  scripts                    writes the fixed list of scripts
+  stats                      what both fixed lists reach (needs the recordings)
+  stats -                    what frame records on standard input reach
+  replay FRAMES BOOLS        replays both stored lists on the Rust
+  slips DIR                  writes one program for each slip into DIR";
+
+fn stop(code: i32, why: &str) -> ! {
+    eprintln!("{why}");
+    std::process::exit(code)
+}
+
+/// Standard output that is written at once and ends the program quietly when nobody reads on.
+fn emit(bytes: &[u8]) {
+    let mut out = std::io::stdout().lock();
+    if out.write_all(bytes).and_then(|_| out.flush()).is_err() {
+        std::process::exit(1);
+    }
+}
+
+fn hex(bytes: &[u8]) -> String {
+    let digits = b"0123456789abcdef";
+    bytes.iter().flat_map(|b| [digits[(b >> 4) as usize] as char, digits[(b & 15) as usize] as char]).collect()
+}
+
+/// The dump line of one frame. Signed numbers stand as their two's complement byte, so -3 is 253.
+fn line(a: &Answer) -> String {
+    let kept = hex(&a.kept);
+    match a.refusal {
+        0 => {}
+        2 => return format!("err 2 code={} st={kept}", a.a),
+        3 => return format!("err 3 end={} length={} st={kept}", a.a, a.b),
+        n => return format!("err {n} st={kept}"),
+    }
+    let mut out = "ok".to_string();
+    for ((name, _), value) in NUMBERS.iter().zip(&a.numbers) {
+        match *name {
+            "part0" => out += &format!(" parts={value}"),
+            "q0" => out += &format!(" q={value}"),
+            n if n.starts_with("part") || (n.starts_with('q') && n.len() == 2) => out += &format!(",{value}"),
+            n => {
+                if n == "range" {
+                    let (coeff, rest) = a.probs.split_at(COEFFS);
+                    let (mv, modes) = rest.split_at(MOTION);
+                    out += &format!(" modes={} mv={} coeff={}", hex(modes), hex(mv), hex(coeff));
+                }
+                out += &format!(" {n}={value}");
+            }
+        }
+    }
+    format!("{out} st={kept}")
+}
+
+/// A frame record: a fresh parser, a frame, or why there are no more.
+enum Record {
+    Fresh,
+    Frame(Vec<u8>),
+    End(Option<&'static str>),
+}
+
+/// That many bytes; none if there are fewer.
+fn take(input: &mut impl Read, n: usize) -> Option<Vec<u8>> {
+    let mut bytes = vec![0; n];
+    input.read_exact(&mut bytes).ok().map(|_| bytes)
+}
+
+fn number(bytes: &[u8]) -> usize {
+    bytes.iter().rev().fold(0, |v, b| v * 256 + *b as usize)
+}
+
+/// The next length, or how the input ends before it.
+fn length(input: &mut impl BufRead) -> Result<usize, Option<&'static str>> {
+    if input.fill_buf().map_or(true, |b| b.is_empty()) {
+        return Err(None);
+    }
+    take(input, 4).map(|b| number(&b)).ok_or(Some("cut short"))
+}
+
+fn record(input: &mut impl BufRead) -> Record {
+    match length(input) {
+        Err(end) => Record::End(end),
+        Ok(0xffff_ffff) => Record::Fresh,
+        Ok(n) if n > gen::LONGEST => Record::End(Some("too large")),
+        Ok(n) => take(input, n).map_or(Record::End(Some("cut short")), Record::Frame),
+    }
+}
+
+fn dump() {
+    let mut input = std::io::stdin().lock();
+    let mut engine = Engine::new();
+    loop {
+        match record(&mut input) {
+            Record::Fresh => engine = Engine::new(),
+            Record::Frame(f) => emit(format!("{}\n", line(&engine.call(&f))).as_bytes()),
+            Record::End(None) => return,
+            Record::End(Some(why)) => return emit(format!("{why}\n").as_bytes()),
+        }
+    }
+}
+
+fn check() {
+    let mut input = std::io::stdin().lock();
+    let (mut engine, mut rules, mut frames) = (Engine::new(), rules::Rules::new(), 0);
+    loop {
+        match record(&mut input) {
+            Record::Fresh => (engine, rules) = (Engine::new(), rules::Rules::new()),
+            Record::Frame(f) => {
+                frames += 1;
+                list::agree(&engine.call(&f), &rules.call(&f), &f);
+            }
+            Record::End(None) => break,
+            Record::End(Some(why)) => stop(1, why),
+        }
+    }
+    println!("{frames} frames, all as document 01 says");
+}
+
+fn reached() {
+    let mut input = std::io::stdin().lock();
+    let (mut sequences, mut frames) = (Vec::new(), Vec::new());
+    loop {
+        match record(&mut input) {
+            Record::Frame(f) => frames.push((0, f)),
+            Record::Fresh => sequences.push(std::mem::take(&mut frames)),
+            Record::End(None) => break,
+            Record::End(Some(why)) => stop(1, why),
+        }
+    }
+    sequences.push(frames);
+    sequences.retain(|s| !s.is_empty());
+    let (_, stats) = list::frames(&sequences);
+    stats.print();
+    println!("lacking: {:?}", stats.missing());
+}
+
+/// One script, or how the input ends.
+fn script(input: &mut impl BufRead) -> Result<(Vec<u8>, Vec<bare::Read>), Option<&'static str>> {
+    let cut = Some("cut short");
+    let n = length(input)?;
+    if n > 4096 {
+        return Err(Some("too large"));
+    }
+    let area = take(input, n).ok_or(cut)?;
+    let count = number(&take(input, 2).ok_or(cut)?);
+    if count > 1024 {
+        return Err(Some("too large"));
+    }
+    let reads: Vec<_> = take(input, 2 * count).ok_or(cut)?.chunks(2).map(|r| (r[0], r[1])).collect();
+    if reads.iter().any(|(kind, _)| *kind > 2) {
+        return Err(Some("bad kind"));
+    }
+    Ok((area, reads))
+}
+
+fn bools() {
+    let mut input = std::io::stdin().lock();
+    let mut stats = stats::Scripts::default();
+    loop {
+        match script(&mut input) {
+            Ok((area, reads)) => emit(format!("{}\n", list::checked(&area, &reads, &mut stats)).as_bytes()),
+            Err(None) => return,
+            Err(Some(why)) => return emit(format!("{why}\n").as_bytes()),
+        }
+    }
+}
+
+/// The value after an option, or none.
+fn option(arguments: &[String], name: &str) -> Option<String> {
+    let at = arguments.iter().position(|a| a == name)?;
+    Some(arguments.get(at + 1).unwrap_or_else(|| stop(2, USAGE)).clone())
+}
+
+fn whole_number(arguments: &[String], name: &str) -> u64 {
+    option(arguments, name).and_then(|v| v.parse().ok()).unwrap_or_else(|| stop(2, USAGE))
+}
+
+fn gen_frames(arguments: &[String]) {
+    let (seed, count) = (whole_number(arguments, "--seed"), whole_number(arguments, "--count"));
+    let streams = option(arguments, "--streams")
+        .map_or(Vec::new(), |d| gen::streams(&PathBuf::from(d)).unwrap_or_else(|why| stop(2, &why)));
+    let rng = &mut Rng::new(seed);
+    let mut left = count as usize;
+    while left > 0 {
+        let mut frames = gen::sequence(rng, &streams);
+        frames.truncate(left);
+        left -= frames.len();
+        let mut out = vec![0xff; 4];
+        for f in frames {
+            out.extend((f.len() as u32).to_le_bytes());
+            out.extend(f);
+        }
+        emit(&out);
+    }
+}
+
+fn gen_bools(arguments: &[String]) {
+    let rng = &mut Rng::new(whole_number(arguments, "--seed"));
+    for _ in 0..whole_number(arguments, "--count") {
+        let (area, reads) = gen::script(rng);
+        emit(&list::script_record(&area, &reads));
+    }
+}
+
+/// The fixed list of frames, some of which come from the recordings.
+fn fixed_list() -> list::Fixed {
+    let folder = std::env::var("SILLBROOK_STREAMS").unwrap_or_else(|_| stop(2, "SILLBROOK_STREAMS is not set; call tests/oracle/run"));
+    let streams = gen::streams(&PathBuf::from(folder)).unwrap_or_else(|why| stop(2, &format!("no recordings: {why}")));
+    list::sequences(&streams)
+}
+
+/// Writes a list, unless it lacks something that it has to reach.
+fn fixed(bytes: &[u8], most: usize, mut missing: Vec<String>) {
+    if bytes.len() > most {
+        missing.push(format!("{} bytes are more than {most}", bytes.len()));
+    }
+    if !missing.is_empty() {
+        stop(1, &format!("the list lacks: {}", missing.join("; ")));
+    }
+    emit(bytes);
+}
+
+fn main() {
+    let arguments: Vec<String> = std::env::args().skip(1).collect();
+    let words: Vec<&str> = arguments.iter().map(String::as_str).collect();
+    match words[..] {
+        ["dump"] => dump(),
+        ["bools"] => bools(),
+        ["check"] => check(),
+        ["gen", "frames", ..] => gen_frames(&arguments[2..]),
+        ["gen", "bools", ..] => gen_bools(&arguments[2..]),
+        ["list"] => {
+            let (bytes, stats) = list::frames(&fixed_list().sequences);
+            fixed(&bytes, 2_000_000, stats.missing());
+        }
+        ["scripts"] => {
+            let (bytes, stats) = list::bools(&list::scripts());
+            fixed(&bytes, 600_000, stats.missing());
+        }
+        ["stats"] => {
+            let fixed = fixed_list();
+            let ((frames, stats), (bools, scripts)) = (list::frames(&fixed.sequences), list::bools(&list::scripts()));
+            println!("frames.bin: {} bytes", frames.len());
+            fixed.parts.iter().for_each(|(at, name)| println!("from sequence {at}: {name}"));
+            stats.print();
+            println!("lacking: {:?}", stats.missing());
+            println!("bools.bin: {} bytes", bools.len());
+            scripts.print();
+            println!("lacking: {:?}", scripts.missing());
+        }
+        ["stats", "-"] => reached(),
+        ["replay", ..] => std::process::exit(replay::main(&arguments[1..])),
+        ["slips", folder] => slips::write(&PathBuf::from(folder)),
+        _ => stop(2, USAGE),
+    }
+}
