@@ -12,7 +12,7 @@ use Rattle.rfc6386.specs.Decoder.{pick}
 use Rattle.rfc6386.specs.Runs.{or}
 use Rattle.rfc6386.specs.Call.{call, calls, after}
 use Rattle.rfc6386_history.specs.Kept.{kept}
-use Rattle.rfc6386_history.specs.Shape.{Sized}
+use Rattle.vp8_records.specs.Shape.{Sized}
 use Rattle.rfc6386_history.specs.History.{cutter, anyCutter, since, writes, last}
 use Rattle.rfc6386_history.proofs.Runs.{or-last}
 use Rattle.rfc6386_history.proofs.Writes.{sized-fresh}

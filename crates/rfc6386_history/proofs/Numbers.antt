@@ -15,9 +15,9 @@ use Rattle.rfc6386.specs.Runs.{or}
 use Rattle.rfc6386.specs.Frame.{sum}
 use Rattle.rfc6386.specs.Call.{call, after}
 use Rattle.rfc6386_history.specs.Kept.{flagged, groups, all, numbers, kept}
-use Rattle.rfc6386_history.specs.Shape.{Sized}
+use Rattle.vp8_records.specs.Shape.{Sized}
 use Rattle.rfc6386_history.specs.History.{since, writes, last}
-use Rattle.rfc6386_history.proofs.Parts.{Laid, coeffs, mv}
+use Rattle.vp8_records.proofs.Parts.{Laid, coeffs, mv}
 use Rattle.rfc6386_history.proofs.Writes.{sized-fresh}
 use Rattle.rfc6386_history.proofs.Step.{sized-call}
 use Rattle.rfc6386_history.proofs.History.{last-writer}

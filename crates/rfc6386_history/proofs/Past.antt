@@ -14,7 +14,7 @@ use Rattle.rfc6386.specs.Frame.{Opened, shut, opened, chunk, beyond, empty, rea
 use Rattle.rfc6386.specs.Call.{headerOf, finish, call, after}
 use Rattle.rfc6386_history.specs.Refusals.{keyOf, opens}
 use Rattle.rfc6386_history.specs.Kept.{kept}
-use Rattle.rfc6386_history.specs.Shape.{Sized}
+use Rattle.vp8_records.specs.Shape.{Sized}
 use Rattle.rfc6386_history.specs.History.{anyCutter, since, writes, last}
 use Rattle.rfc6386_history.specs.Past.{withProbs, Alike}
 use Rattle.rfc6386_history.proofs.Refusals.{Opens, chunk-opens}

@@ -3,16 +3,10 @@ use Prim.Native.Nat.{ℕ, zero, suc, _≤_}
 use native.Mathlib.Omega.{arith}
 use mathlib.Core.Path.{_≡_, refl, ap}
 use mathlib.Core.Option.{Option, none, some, Option·map}
-use mathlib.Core.List.{List, [], _∷_, _++_, map}
+use mathlib.Core.List.{List, [], _∷_, map}
 use lib.ListN.{length, getD}
 use Rattle.rfc6386.specs.Runs.{or, over}
 use Rattle.rfc6386_history.specs.History.{fit, last}
-
-pub length-over : {A : Type 0} (us : List (Option A)) (xs : List A) → length (over us xs) ≡ length xs
-unfolding over
-length-over [] xs = refl
-length-over (u ∷ us) [] = refl
-length-over (u ∷ us) (x ∷ xs) = ap suc (length-over us xs)
 
 pub length-fit : {A : Type 0} (n : ℕ) (us : List (Option A)) → length (fit n us) ≡ n
 unfolding fit
@@ -30,14 +24,6 @@ over-fit (suc n) [] [] h = refl
 over-fit (suc n) [] (x ∷ xs) h = ap (λ r. x ∷ r) (over-fit n [] xs (omega (arith, h)))
 over-fit (suc n) (u ∷ us) [] h = refl
 over-fit (suc n) (u ∷ us) (x ∷ xs) h = ap (λ r. or u x ∷ r) (over-fit n us xs (omega (arith, h)))
-
-pub over-append : {A : Type 0} (us vs : List (Option A)) (xs ys : List A) → length xs ≡ length us
-    → over (us ++ vs) (xs ++ ys) ≡ over us xs ++ over vs ys
-unfolding over
-over-append [] vs [] ys h = refl
-over-append [] vs (x ∷ xs) ys h = absurd (omega (arith, h))
-over-append (u ∷ us) vs [] ys h = absurd (omega (arith, h))
-over-append (u ∷ us) vs (x ∷ xs) ys h = ap (λ r. or u x ∷ r) (over-append us vs xs ys (omega (arith, h)))
 
 pub over-map : {A B : Type 0} (f : A → B) (us : List (Option A)) (xs : List A) → over (map (Option·map f) us) (map f xs) ≡ map f (over us xs)
 unfolding over

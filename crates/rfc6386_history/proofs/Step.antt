@@ -22,7 +22,7 @@ use Rattle.rfc6386.specs.Frame.{Chunk, Opened, shut, opened, chunk, Body, beyon
 use Rattle.rfc6386.specs.Call.{cleared, finish, call}
 use Rattle.rfc6386_history.specs.Refusals.{keyOf, rightCode, tooLong, opens, coded, outcomeOf, left}
 use Rattle.rfc6386_history.specs.Kept.{numbers, kept}
-use Rattle.rfc6386_history.specs.Shape.{Sized}
+use Rattle.vp8_records.specs.Shape.{Sized}
 use Rattle.rfc6386_history.specs.History.{cutter, wrote, writes}
 use Rattle.rfc6386_history.proofs.Runs.{getD-over}
 use Rattle.rfc6386_history.proofs.Writes.{applied, sized-fresh, sized-apply, sized-cleared}

@@ -20,10 +20,11 @@ use Rattle.rfc6386.specs.Runs.{or, over}
 use Rattle.rfc6386.specs.Coded.{Coded}
 use Rattle.rfc6386.specs.Call.{Probs, segmented, adjusted, coeffsOver, mvOver, modesOver, probsOf, probsOver, apply, cleared}
 use Rattle.rfc6386_history.specs.Kept.{flagged, numbers}
-use Rattle.rfc6386_history.specs.Shape.{SizedCoeffs, SizedMv, Sized}
+use Rattle.vp8_records.specs.Shape.{SizedCoeffs, SizedMv, Sized}
 use Rattle.rfc6386_history.specs.History.{fit, bytes, written}
-use Rattle.rfc6386_history.proofs.Parts.{Laid, coeffs, mv}
-use Rattle.rfc6386_history.proofs.Runs.{length-over, length-fit, over-fit, over-append, over-map}
+use Rattle.vp8_records.proofs.Parts.{Laid, coeffs, mv}
+use Rattle.rfc6386.proofs.Runs.{length-over, over-append}
+use Rattle.rfc6386_history.proofs.Runs.{length-fit, over-fit, over-map}
 
 infixr 65 _then_
 -- what is written over records of n numbers, laid out again

@@ -5,6 +5,5 @@
 --   Past: a header's parts that the past may touch.
 pub mod Refusals
 pub mod Kept
-pub mod Shape
 pub mod History
 pub mod Past

@@ -10,6 +10,7 @@ use mathlib.Core.List.{List, [], _∷_, _++_}
 use lib.ListN.{length, getD, take, drop, replicate, length-drop, length-replicate}
 use lib.Seq.{drop-cons, drop-drop, take-add, drop-at, length-take-le, take-at, take-take, take-nil}
 use Rattle.vp8_records.specs.Layout.{rows, joined}
+use Rattle.vp8_records.specs.Shape.{Every}
 use Rattle.rfc6386.specs.Reads.{Rd, ret, ask, _>>=_, bool, flag, when, make, times, each, maybe, orElse}
 use Rattle.rfc6386.specs.Runs.{or, over}
 use Rattle.rfc6386.specs.Coded.{anew}
@@ -111,10 +112,6 @@ pub some-over : {A : Type 0} (m : Rd A) (x : A) → m ≡ make (λ u. or u x) (m
 unfolding make _>>=_
 some-over (ret a) x = refl
 some-over (ask p k) x = ap (ask p) (fun-ext (λ b. some-over (k b) x))
-
-abbrev pub Every : {A : Type 0} → (A → Type 0) → List A → Type 0
-Every Q [] = Unit {0}
-Every Q (x ∷ xs) = Q x × Every Q xs
 
 -- a loop over records of n numbers each: `flat` is a record's run, `laid` makes a record of the first n numbers of a run
 module _ {A : Type 0} (flat : A → List ℕ) (laid : List ℕ → A) (Good : A → Type 0) (n : ℕ) (g : ℕ → Rd (Option ℕ)) (t : List ℕ)

@@ -1,3 +1,4 @@
 -- Laws that several proofs, here and above, cite.
 pub mod Copy
 pub mod Places
+pub mod Parts

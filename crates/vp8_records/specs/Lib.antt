@@ -2,3 +2,4 @@
 pub mod Layout
 pub mod Start
 pub mod Outcome
+pub mod Shape

@@ -4,15 +4,17 @@ use native.Mathlib.Omega.{arith}
 use mathlib.Core.Path.{_≡_}
 use lib.ListN.{length}
 use borrow.Author.Needs.{needs}
+use Rattle.vp8_records.specs.Shape.{Every, SizedTokens, SizedContexts}
+use Rattle.vp8_records.proofs.Parts as Parts
 use Rattle.bool_decoder.proofs.Each.{Turn, begin, turn, end}
 use Rattle.vp8_fields.proofs.Loops.{room}
 use Rattle.vp8_probs.specs.Tables.{coeffUpdate}
 use Rattle.vp8_records.specs.Layout.{flatContexts, laidContexts}
 use Rattle.bool_decoder.proofs.Each.{length-mapped}
 use Rattle.vp8_fields.specs.Parts.{coded, part}
-use Rattle.vp8_fields.proofs.InPlace.{Every, level}
+use Rattle.vp8_fields.proofs.InPlace.{level}
 use Rattle.vp8_fields.proofs.Made.{same, makes}
-use Rattle.vp8_fields.proofs.Shapes.{Eleven, Three, contexts-size, contexts-own, every-of}
+use Rattle.vp8_fields.proofs.Shapes.{contexts-own, every-of}
 use Rattle.vp8_fields.proofs.bands.Statement.{statement}
 use Rattle.vp8_fields.proofs.bands.Tie as tie
 
@@ -25,13 +27,13 @@ abbrev μ-loop : tie.MeasureT-loop
 lengths : (c : tie.Start Inv-loop μ-loop) → length (c .args .row .v) ≡ 8
 lengths c = search (needs, length-mapped)
 
-each-of : (c : tie.Start Inv-loop μ-loop) → Every Three (c .args .row .v)
+each-of : (c : tie.Start Inv-loop μ-loop) → Every SizedContexts (c .args .row .v)
 each-of c =
     let g = c .good .1 .1 .1 .1 .0 .1 .1 .0 in
-    every-of _ _ _ Three
+    every-of _ _ _ SizedContexts
     (λ x u h. (
       search (needs, length-mapped),
-      every-of _ _ _ Eleven (λ y w i. search (needs, length-mapped)) (x .v) (h .1 .1 .0 .0) (h .1 .1 .0 .1 .1),
+      every-of _ _ _ SizedTokens (λ y w i. search (needs, length-mapped)) (x .v) (h .1 .1 .0 .0) (h .1 .1 .0 .1 .1),
     ))
     (c .args .row .v) (g .0) (g .1 .1)
 
@@ -74,7 +76,7 @@ returns : tie.Need-returns Inv-loop μ-loop
 unfolding coeffUpdate
 returns c =
     same
-    (level flatContexts laidContexts Three 33 coded coeffUpdate contexts-size contexts-own (λ v. record { v = v }) 8 (c .before .before .before .args .at) (c .before .before .before .args .row .v) (lengths (c .before .before .before)) (each-of (c .before .before .before)) (c .before .before .before .pre .1))
+    (level flatContexts laidContexts SizedContexts 33 coded coeffUpdate (Parts.contexts .size) contexts-own (λ v. record { v = v }) 8 (c .before .before .before .args .at) (c .before .before .before .args .row .v) (lengths (c .before .before .before)) (each-of (c .before .before .before)) (c .before .before .before .pre .1))
     (makes (λ v. record { v = v }) (end _ (c .before .loop .inv) (lengths (c .before .before .before)) (c .loop-test .left)))
 
 pub bands-spec : {M : Type 1} → statement M

@@ -4,15 +4,16 @@ use native.Mathlib.Omega.{arith}
 use mathlib.Core.Path.{_≡_}
 use lib.ListN.{length}
 use borrow.Author.Needs.{needs}
+use Rattle.vp8_records.specs.Shape.{Every, SizedTokens}
 use Rattle.bool_decoder.proofs.Each.{Turn, begin, turn, end}
 use Rattle.vp8_fields.proofs.Loops.{room}
 use Rattle.vp8_probs.specs.Tables.{coeffUpdate}
 use Rattle.vp8_records.specs.Layout.{flatTokens, laidTokens}
 use Rattle.bool_decoder.proofs.Each.{length-mapped}
 use Rattle.vp8_fields.specs.Parts.{coded, part}
-use Rattle.vp8_fields.proofs.InPlace.{Every, level}
+use Rattle.vp8_fields.proofs.InPlace.{level}
 use Rattle.vp8_fields.proofs.Made.{same, makes}
-use Rattle.vp8_fields.proofs.Shapes.{Eleven, tokens-own, every-of}
+use Rattle.vp8_fields.proofs.Shapes.{tokens-own, every-of}
 use Rattle.vp8_fields.proofs.Shapes.{every-of}
 use Rattle.vp8_fields.proofs.contexts.Statement.{statement}
 use Rattle.vp8_fields.proofs.contexts.Tie as tie
@@ -26,10 +27,10 @@ abbrev μ-loop : tie.MeasureT-loop
 lengths : (c : tie.Start Inv-loop μ-loop) → length (c .args .row .v) ≡ 3
 lengths c = search (needs, length-mapped)
 
-each-of : (c : tie.Start Inv-loop μ-loop) → Every Eleven (c .args .row .v)
+each-of : (c : tie.Start Inv-loop μ-loop) → Every SizedTokens (c .args .row .v)
 each-of c =
     let g = c .good .1 .1 .1 .1 .0 .1 .1 .0 in
-    every-of _ _ _ Eleven (λ x u h. search (needs, length-mapped)) (c .args .row .v) (g .0) (g .1 .1)
+    every-of _ _ _ SizedTokens (λ x u h. search (needs, length-mapped)) (c .args .row .v) (g .0) (g .1 .1)
 
 loop-holds : tie.Need-loop-holds Inv-loop μ-loop
 loop-holds c = begin _ (c .before .pre .2 .over)
@@ -70,7 +71,7 @@ returns : tie.Need-returns Inv-loop μ-loop
 unfolding coeffUpdate
 returns c =
     same
-    (level flatTokens laidTokens Eleven 11 coded coeffUpdate (λ x h. h) tokens-own (λ v. record { v = v }) 3 (c .before .before .before .args .at) (c .before .before .before .args .row .v) (lengths (c .before .before .before)) (each-of (c .before .before .before)) (c .before .before .before .pre .1))
+    (level flatTokens laidTokens SizedTokens 11 coded coeffUpdate (λ x h. h) tokens-own (λ v. record { v = v }) 3 (c .before .before .before .args .at) (c .before .before .before .args .row .v) (lengths (c .before .before .before)) (each-of (c .before .before .before)) (c .before .before .before .pre .1))
     (makes (λ v. record { v = v }) (end _ (c .before .loop .inv) (lengths (c .before .before .before)) (c .loop-test .left)))
 
 pub contexts-spec : {M : Type 1} → statement M

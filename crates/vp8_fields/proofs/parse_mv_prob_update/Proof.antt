@@ -4,15 +4,16 @@ use native.Mathlib.Omega.{arith}
 use mathlib.Core.Path.{_≡_, refl}
 use lib.ListN.{length}
 use borrow.Author.Needs.{needs}
+use Rattle.vp8_records.specs.Shape.{Every, SizedMvContext}
 use Rattle.bool_decoder.proofs.Each.{Turn, begin, turn, end}
 use Rattle.vp8_fields.proofs.Loops.{room}
 use Rattle.vp8_probs.specs.Tables.{mvUpdate}
 use Rattle.vp8_records.specs.Layout.{flatMvContext, laidMvContext}
 use Rattle.bool_decoder.proofs.Each.{length-mapped}
 use Rattle.vp8_fields.specs.Parts.{codedMv, part}
-use Rattle.vp8_fields.proofs.InPlace.{Every, level}
+use Rattle.vp8_fields.proofs.InPlace.{level}
 use Rattle.vp8_fields.proofs.Made.{same, makes}
-use Rattle.vp8_fields.proofs.Shapes.{Nineteen, mv-own, every-of}
+use Rattle.vp8_fields.proofs.Shapes.{mv-own, every-of}
 use native.Mathlib.Nat.{zero-add}
 use Rattle.rfc6386.specs.Coded.{motion}
 use Rattle.rfc6386.specs.Call.{mvOver}
@@ -28,10 +29,10 @@ abbrev μ-loop : tie.MeasureT-loop
 lengths : (c : tie.Start Inv-loop μ-loop) → length (c .args .mv-probs .v) ≡ 2
 lengths c = search (needs, length-mapped)
 
-each-of : (c : tie.Start Inv-loop μ-loop) → Every Nineteen (c .args .mv-probs .v)
+each-of : (c : tie.Start Inv-loop μ-loop) → Every SizedMvContext (c .args .mv-probs .v)
 each-of c =
     let g = c .good .1 .1 .0 .1 .1 .0 in
-    every-of _ _ _ Nineteen (λ x u h. search (needs, length-mapped)) (c .args .mv-probs .v) (g .0) (g .1 .1)
+    every-of _ _ _ SizedMvContext (λ x u h. search (needs, length-mapped)) (c .args .mv-probs .v) (g .0) (g .1 .1)
 
 loop-holds : tie.Need-loop-holds Inv-loop μ-loop
 loop-holds c = begin _ (c .before .pre .over)
@@ -70,7 +71,7 @@ returns : tie.Need-returns Inv-loop μ-loop
 unfolding mvOver motion mvUpdate
 returns c =
     same
-    (level flatMvContext laidMvContext Nineteen 19 codedMv mvUpdate (λ x h. h) mv-own (λ v. record { v = v }) 2 0 (c .before .before .before .args .mv-probs .v) (lengths (c .before .before .before)) (each-of (c .before .before .before)) (omega arith))
+    (level flatMvContext laidMvContext SizedMvContext 19 codedMv mvUpdate (λ x h. h) mv-own (λ v. record { v = v }) 2 0 (c .before .before .before .args .mv-probs .v) (lengths (c .before .before .before)) (each-of (c .before .before .before)) (omega arith))
     (makes (λ v. record { v = v }) (end _ (c .before .loop .inv) (lengths (c .before .before .before)) (c .loop-test .left)))
 
 pub parse-mv-prob-update-spec : {M : Type 1} → statement M

@@ -4,15 +4,17 @@ use native.Mathlib.Omega.{arith}
 use mathlib.Core.Path.{_≡_}
 use lib.ListN.{length}
 use borrow.Author.Needs.{needs}
+use Rattle.vp8_records.specs.Shape.{Every, SizedTokens, SizedContexts, SizedBands}
+use Rattle.vp8_records.proofs.Parts as Parts
 use Rattle.bool_decoder.proofs.Each.{Turn, begin, turn, end}
 use Rattle.vp8_fields.proofs.Loops.{room}
 use Rattle.vp8_probs.specs.Tables.{coeffUpdate}
 use Rattle.vp8_records.specs.Layout.{flatBands, laidBands}
 use Rattle.bool_decoder.proofs.Each.{length-mapped}
 use Rattle.vp8_fields.specs.Parts.{coded, part}
-use Rattle.vp8_fields.proofs.InPlace.{Every, level}
+use Rattle.vp8_fields.proofs.InPlace.{level}
 use Rattle.vp8_fields.proofs.Made.{same, makes}
-use Rattle.vp8_fields.proofs.Shapes.{Eleven, Three, Eight, bands-size, bands-own, every-of}
+use Rattle.vp8_fields.proofs.Shapes.{bands-own, every-of}
 use native.Mathlib.Nat.{zero-add}
 use Rattle.rfc6386.specs.Coded.{coefficients}
 use Rattle.rfc6386.specs.Call.{coeffsOver}
@@ -31,16 +33,16 @@ coeff-update-probs-requires c κs = search needs
 lengths : (c : tie.Start Inv-loop μ-loop) → length (c .args .coeff-probs .v) ≡ 4
 lengths c = search (needs, length-mapped)
 
-each-of : (c : tie.Start Inv-loop μ-loop) → Every Eight (c .args .coeff-probs .v)
+each-of : (c : tie.Start Inv-loop μ-loop) → Every SizedBands (c .args .coeff-probs .v)
 each-of c =
     let g = c .good .1 .1 .0 .1 .1 .0 in
-    every-of _ _ _ Eight
+    every-of _ _ _ SizedBands
     (λ x u h. (
       search (needs, length-mapped),
-      every-of _ _ _ Three
+      every-of _ _ _ SizedContexts
           (λ y w i. (
             search (needs, length-mapped),
-            every-of _ _ _ Eleven (λ z t j. search (needs, length-mapped)) (y .v) (i .1 .1 .0 .0) (i .1 .1 .0 .1 .1),
+            every-of _ _ _ SizedTokens (λ z t j. search (needs, length-mapped)) (y .v) (i .1 .1 .0 .0) (i .1 .1 .0 .1 .1),
           ))
           (x .v) (h .1 .1 .0 .0) (h .1 .1 .0 .1 .1),
     ))
@@ -82,7 +84,7 @@ returns : tie.Need-returns Inv-loop μ-loop
 unfolding coeffsOver coefficients coeffUpdate
 returns c =
     same
-    (level flatBands laidBands Eight 264 coded coeffUpdate bands-size bands-own (λ v. record { v = v }) 4 0 (c .before .before .before .before .args .coeff-probs .v) (lengths (c .before .before .before .before)) (each-of (c .before .before .before .before)) (omega arith))
+    (level flatBands laidBands SizedBands 264 coded coeffUpdate (Parts.bands .size) bands-own (λ v. record { v = v }) 4 0 (c .before .before .before .before .args .coeff-probs .v) (lengths (c .before .before .before .before)) (each-of (c .before .before .before .before)) (omega arith))
     (makes (λ v. record { v = v }) (end _ (c .before .loop .inv) (lengths (c .before .before .before .before)) (c .loop-test .left)))
 
 pub parse-token-prob-update-spec : {M : Type 1} → statement M
