@@ -3,11 +3,9 @@ use Prim.Native.Nat.{ℕ}
 use mathlib.Core.Option.{Option}
 use mathlib.Core.List.{List}
 use lib.ListN.{take, drop}
-use Rattle.vp8_records.specs.declared.ModeProbs.{ModeProbs}
-use Rattle.rfc6386.specs.Reads.{Rd, ret, _>>=_, make, each, maybe, lit}
+use Rattle.rfc6386.specs.Reads.{Rd, make, each, maybe, lit}
 use Rattle.rfc6386.specs.Runs.{over}
-use Rattle.rfc6386.specs.Coded.{mvOf, modes}
-use Rattle.rfc6386.specs.Call.{modesOver}
+use Rattle.rfc6386.specs.Coded.{mvOf}
 
 -- a coefficient probability and a motion probability, each coded where its bool is set
 abbrev pub coded : ℕ → Rd (Option ℕ)
@@ -18,10 +16,3 @@ codedMv p = maybe p (make mvOf (lit 7))
 
 abbrev pub part : {A : Type 0} → (A → List ℕ) → (List ℕ → A) → ℕ → (ℕ → Rd (Option ℕ)) → List ℕ → ℕ → A → Rd A
 part flat laid n g t at x = make (λ us. laid (over us (flat x))) (each g (take n (drop at t)))
-
--- both groups of mode probabilities, over those that were kept
-unfoldable pub bothModes : ModeProbs → Rd ModeProbs
-bothModes r = do
-  y ← modes 4
-  c ← modes 3
-  ret (modesOver y c r)

@@ -6,7 +6,6 @@ use vp8_records::Bands;
 use vp8_records::CoeffProbs;
 use vp8_records::Contexts;
 use vp8_records::MbLfAdjustments;
-use vp8_records::ModeProbs;
 use vp8_records::MvContext;
 use vp8_records::MvProbs;
 use vp8_records::QuantIndices;
@@ -24,7 +23,7 @@ ghost use Rattle.rfc6386.specs.Runs.{or, over};
 ghost use Rattle.rfc6386.specs.Coded.{anew, features, noFeatures, segments, deltas, quant, coefficients, mvOf, motion, modes};
 ghost use Rattle.rfc6386.specs.Call.{segmented, adjusted, coeffsOver, mvOver};
 ghost use Rattle.bool_decoder.specs.Model.{Good, Ran, Lit};
-ghost use Rattle.vp8_fields.specs.Parts.{coded, codedMv, part, bothModes};
+ghost use Rattle.vp8_fields.specs.Parts.{coded, codedMv, part};
 
 // What was read, and the decoder after it.
 pub struct Byte {
@@ -94,11 +93,6 @@ pub struct MvContextRead {
 
 pub struct MvRead {
     pub mv_prob: MvProbs,
-    pub dec: BoolDecoder,
-}
-
-pub struct ModesRead {
-    pub mode_probs: ModeProbs,
     pub dec: BoolDecoder,
 }
 
@@ -548,7 +542,7 @@ fn three_bytes(area: &[u8], dec: BoolDecoder, old: [u8; 3]) -> ThreeBytes
     ThreeBytes { values, dec: next }
 }
 
-fn luma_modes(area: &[u8], dec: BoolDecoder, old: [u8; 4]) -> FourBytes
+pub fn parse_intra_16x16_prob_update(area: &[u8], dec: BoolDecoder, old: [u8; 4]) -> FourBytes
     requires { ⌜ Good (now area) dec 33 ⌝ }
     ensures { λ r. ⌜ Ran (make (λ us. over us old) (modes 4)) (now (area .entry)) dec (r .values) (r .dec) 33 ⌝ }
 {
@@ -564,7 +558,7 @@ fn luma_modes(area: &[u8], dec: BoolDecoder, old: [u8; 4]) -> FourBytes
     }
 }
 
-fn chroma_modes(area: &[u8], dec: BoolDecoder, old: [u8; 3]) -> ThreeBytes
+pub fn parse_intra_chroma_prob_update(area: &[u8], dec: BoolDecoder, old: [u8; 3]) -> ThreeBytes
     requires { ⌜ Good (now area) dec 25 ⌝ }
     ensures { λ r. ⌜ Ran (make (λ us. over us old) (modes 3)) (now (area .entry)) dec (r .values) (r .dec) 25 ⌝ }
 {
@@ -577,26 +571,5 @@ fn chroma_modes(area: &[u8], dec: BoolDecoder, old: [u8; 3]) -> ThreeBytes
             values: old,
             dec: next,
         }
-    }
-}
-
-pub fn parse_mode_prob_update(area: &[u8], dec: BoolDecoder, mode_probs: ModeProbs) -> ModesRead
-    requires { ⌜ Good (now area) dec 58 ⌝ }
-    ensures { λ r. ⌜ Ran (bothModes «mode_probs») (now (area .entry)) dec (r .«mode_probs») (r .dec) 58 ⌝ }
-{
-    let old_luma = mode_probs.intra_16x16_prob;
-    let luma = luma_modes(area, dec, old_luma);
-    let old_chroma = mode_probs.intra_chroma_prob;
-    let chroma = chroma_modes(area, luma.dec, old_chroma);
-    let intra_16x16_prob = luma.values;
-    let intra_chroma_prob = chroma.values;
-    let made = ModeProbs {
-        intra_16x16_prob,
-        intra_chroma_prob,
-    };
-    let after = chroma.dec;
-    ModesRead {
-        mode_probs: made,
-        dec: after,
     }
 }

@@ -6,8 +6,8 @@ use Rattle.rfc6386.specs.Coded.{modes}
 use Rattle.rfc6386.specs.Runs.{over}
 use Rattle.vp8_fields.proofs.InPlace.{make-bind, make-on, make-off}
 use Rattle.vp8_fields.proofs.Made.{same}
-use Rattle.vp8_fields.proofs.luma_modes.Statement.{statement}
-use Rattle.vp8_fields.proofs.luma_modes.Tie as tie
+use Rattle.vp8_fields.proofs.parse_intra_16x16_prob_update.Statement.{statement}
+use Rattle.vp8_fields.proofs.parse_intra_16x16_prob_update.Tie as tie
 
 read-flag-requires : tie.Need-read-flag-requires
 read-flag-requires c κs = search needs
@@ -27,5 +27,5 @@ returns-2 c =
     let b = c .before .before .read-flag .ensures in
     same (make-bind _ _ _) (upto (omega arith) (then _ b (same (make-off _ _ _ (c .if1 .left)) (done (b .over)))))
 
-pub luma-modes-spec : {M : Type 1} → statement M
-luma-modes-spec = tie.close (tie.spec read-flag-requires four-bytes-requires returns returns-2)
+pub parse-intra-16x16-prob-update-spec : {M : Type 1} → statement M
+parse-intra-16x16-prob-update-spec = tie.close (tie.spec read-flag-requires four-bytes-requires returns returns-2)

@@ -1,0 +1,3 @@
+-- Laws of the stages.
+pub mod Whole
+pub mod Built

@@ -1,0 +1,54 @@
+-- One read after the other; the segmentation is the definition's written over the old one. Assumes nothing.
+use mathlib.Core.Path.{sym}
+use borrow.Author.Needs.{needs}
+use Rattle.bool_decoder.proofs.Chain.{then, done}
+use Rattle.vp8_fields.proofs.Made.{worth, makes, made}
+use Rattle.vp8_header.specs.Stages.{first, firstOf}
+use Rattle.vp8_header.proofs.parse_first.Statement.{statement}
+use Rattle.vp8_header.proofs.parse_first.Tie as tie
+
+flag-if-requires : tie.Need-flag-if-requires
+flag-if-requires c κs = search needs
+
+flag-if-requires-2 : tie.Need-flag-if-requires-2
+flag-if-requires-2 c κs = search needs
+
+update-segmentation-requires : tie.Need-update-segmentation-requires
+update-segmentation-requires c κs = search needs
+
+read-flag-requires : tie.Need-read-flag-requires
+read-flag-requires c κs = search needs
+
+read-byte-requires : tie.Need-read-byte-requires
+read-byte-requires c κs = search needs
+
+read-byte-requires-2 : tie.Need-read-byte-requires-2
+read-byte-requires-2 c κs = search needs
+
+returns : tie.Need-returns
+unfolding first firstOf
+returns c =
+    let g = made (c .before .before .before .before .before .update-segmentation .ensures) in
+    worth (λ i. record {
+      «color_space» = c .before .before .before .before .before .before .before .flag-if .result .bit;
+      «clamping_type» = c .before .before .before .before .before .before .flag-if2 .result .bit;
+      «segmentation» = sym (g .is) i;
+      «filter_type» = c .before .before .before .before .read-flag .result .bit;
+      «loop_filter_level» = c .before .before .before .read-byte .result .value;
+      «sharpness_level» = c .before .before .read-byte2 .result .value;
+    })
+    (makes (firstOf (c .before .before .before .before .before .before .before .before .before .args .seg))
+    (then _ (c .before .before .before .before .before .before .before .flag-if .ensures) (then _ (c .before .before .before .before .before .before .flag-if2 .ensures) (then _ (g .ran) (then _ (c .before .before .before .before .read-flag .ensures)
+    (then _ (c .before .before .before .read-byte .ensures .ran) (then _ (c .before .before .read-byte2 .ensures .ran) (done (c .before .before .read-byte2 .ensures .ran .over)))))))))
+
+pub parse-first-spec : {M : Type 1} → statement M
+parse-first-spec =
+    tie.close
+    (tie.spec
+    flag-if-requires
+    flag-if-requires-2
+    update-segmentation-requires
+    read-flag-requires
+    read-byte-requires
+    read-byte-requires-2
+    returns)

@@ -1,0 +1,44 @@
+-- One read after the other; the adjustments are the definition's written over the old ones. Assumes nothing.
+use mathlib.Core.Path.{sym}
+use borrow.Author.Needs.{needs}
+use Rattle.bool_decoder.proofs.Chain.{then, done}
+use Rattle.vp8_fields.proofs.Made.{worth, makes, made}
+use Rattle.vp8_header.specs.Stages.{second, secondOf}
+use Rattle.vp8_header.proofs.parse_second.Statement.{statement}
+use Rattle.vp8_header.proofs.parse_second.Tie as tie
+
+parse-mb-lf-adjustments-requires : tie.Need-parse-mb-lf-adjustments-requires
+parse-mb-lf-adjustments-requires c κs = search needs
+
+read-byte-requires : tie.Need-read-byte-requires
+read-byte-requires c κs = search needs
+
+parse-quant-indices-requires : tie.Need-parse-quant-indices-requires
+parse-quant-indices-requires c κs = search needs
+
+parse-refresh-requires : tie.Need-parse-refresh-requires
+parse-refresh-requires c κs = search needs
+
+returns : tie.Need-returns
+unfolding second secondOf
+returns c =
+    let a = made (c .before .before .before .before .before .before .before .parse-mb-lf-adjustments .ensures) in
+    let f = made (c .before .before .before .before .parse-refresh .ensures) in
+    worth (λ i. record {
+      «mb_lf_adjust» = sym (a .is) i;
+      «log2_nbr_of_dct_partitions» = c .before .before .before .before .before .before .read-byte .result .value;
+      «quant_indices» = c .before .before .before .before .before .parse-quant-indices .result .«quant_indices»;
+      «refresh» = sym (f .is) i;
+    })
+    (makes (secondOf (c .before .before .before .before .before .before .before .before .before .args .adj))
+    (then _ (a .ran) (then _ (c .before .before .before .before .before .before .read-byte .ensures .ran) (then _ (c .before .before .before .before .before .parse-quant-indices .ensures) (then _ (f .ran) (done (f .ran .over)))))))
+
+pub parse-second-spec : {M : Type 1} → statement M
+parse-second-spec =
+    tie.close
+    (tie.spec
+    parse-mb-lf-adjustments-requires
+    read-byte-requires
+    parse-quant-indices-requires
+    parse-refresh-requires
+    returns)

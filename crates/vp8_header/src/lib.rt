@@ -1,0 +1,423 @@
+// The compressed frame header of parser.rs, read in three stages over the whole area, and the state that it leaves.
+use bool_decoder::BoolDecoder;
+use vp8_records::CoeffProbs;
+use vp8_records::Header;
+use vp8_records::MbLfAdjustments;
+use vp8_records::ModeProbs;
+use vp8_records::MvProbs;
+use vp8_records::Parser;
+use vp8_records::QuantIndices;
+use vp8_records::Segmentation;
+ghost use mathlib.Core.Path.{_≡_};
+ghost use mathlib.Core.Bool.{true, false};
+ghost use Rattle.vp8_records.specs.Start.{keyModes};
+ghost use Rattle.rfc6386.specs.Decoder.{bits, pick};
+ghost use Rattle.rfc6386.specs.Frame.{snapshot};
+ghost use Rattle.rfc6386.specs.Reads.{when, make};
+ghost use Rattle.rfc6386.specs.Coded.{refresh, inter, noInter};
+ghost use Rattle.rfc6386.specs.Call.{keeping, probsOf};
+ghost use Rattle.bool_decoder.specs.Model.{Good, Ran};
+ghost use Rattle.bool_decoder.specs.Window.{stateOf, Over};
+ghost use Rattle.vp8_header.specs.Stages.{first, firstOf, refreshOf, second, secondOf, interOf, third, thirdOf, probsIn, headerFrom};
+ghost use Rattle.vp8_header.specs.Headed.{chunkOf, headedOf};
+
+// The uncompressed chunk. A size code holds 14 bits of size below 2 of scale.
+pub struct DataChunk {
+    pub key_frame: bool,
+    pub version: u8,
+    pub show_frame: bool,
+    pub first_part_size: u32,
+    pub data_chunk_size: u8,
+    pub width_code: u16,
+    pub height_code: u16,
+}
+
+// The header's fields, in the order in which they are read.
+pub struct First {
+    pub color_space: bool,
+    pub clamping_type: bool,
+    pub segmentation: Segmentation,
+    pub filter_type: bool,
+    pub loop_filter_level: u8,
+    pub sharpness_level: u8,
+}
+
+pub struct RefreshFlags {
+    pub refresh_golden_frame: bool,
+    pub refresh_alternate_frame: bool,
+    pub copy_buffer_to_golden: u8,
+    pub copy_buffer_to_alternate: u8,
+    pub sign_bias_golden: bool,
+    pub sign_bias_alternate: bool,
+    pub refresh_entropy_probs: bool,
+    pub refresh_last: bool,
+}
+
+pub struct Second {
+    pub mb_lf_adjust: MbLfAdjustments,
+    pub log2_nbr_of_dct_partitions: u8,
+    pub quant_indices: QuantIndices,
+    pub refresh: RefreshFlags,
+}
+
+pub struct InterFields {
+    pub prob_intra: u8,
+    pub prob_last: u8,
+    pub prob_golden: u8,
+    pub mode_probs: ModeProbs,
+    pub mv_prob: MvProbs,
+}
+
+pub struct Third {
+    pub coeff_prob: CoeffProbs,
+    pub mb_no_coeff_skip: bool,
+    pub prob_skip_false: u8,
+    pub inter: InterFields,
+}
+
+// What was read, and the decoder after it.
+pub struct FirstRead {
+    pub first: First,
+    pub dec: BoolDecoder,
+}
+
+pub struct RefreshRead {
+    pub refresh: RefreshFlags,
+    pub dec: BoolDecoder,
+}
+
+pub struct SecondRead {
+    pub second: Second,
+    pub dec: BoolDecoder,
+}
+
+pub struct InterRead {
+    pub inter: InterFields,
+    pub dec: BoolDecoder,
+}
+
+pub struct ThirdRead {
+    pub third: Third,
+    pub dec: BoolDecoder,
+}
+
+// A header whose partition sizes are still to come, and the state after it.
+pub struct Headed {
+    pub header: Header,
+    pub parser: Parser,
+}
+
+fn parse_first(area: &[u8], dec: BoolDecoder, key: bool, seg: Segmentation) -> FirstRead
+    requires { ⌜ Good (now area) dec 111 ⌝ }
+    ensures { λ r. ⌜ Ran (make (firstOf seg) (first key)) (now (area .entry)) dec (r .first) (r .dec) 111 ⌝ }
+{
+    let color_space = vp8_fields::flag_if(area, dec, key);
+    let clamping_type = vp8_fields::flag_if(area, color_space.dec, key);
+    let update = vp8_fields::update_segmentation(area, clamping_type.dec, seg);
+    let filter_type = update.dec.read_flag(area);
+    let level = vp8_fields::read_byte(area, filter_type.dec, 6);
+    let sharpness = vp8_fields::read_byte(area, level.dec, 3);
+    let segmentation = update.segmentation;
+    let first = First {
+        color_space: color_space.bit,
+        clamping_type: clamping_type.bit,
+        segmentation,
+        filter_type: filter_type.bit,
+        loop_filter_level: level.value,
+        sharpness_level: sharpness.value,
+    };
+    let after = sharpness.dec;
+    FirstRead { first, dec: after }
+}
+
+// A key frame refreshes all three buffers.
+fn refresh_key(area: &[u8], dec: BoolDecoder) -> RefreshRead
+    requires { ⌜ Good (now area) dec 1 ⌝ }
+    ensures { λ r. ⌜ Ran (make refreshOf (refresh true)) (now (area .entry)) dec (r .refresh) (r .dec) 1 ⌝ }
+{
+    let entropy = dec.read_flag(area);
+    let refresh = RefreshFlags {
+        refresh_golden_frame: true,
+        refresh_alternate_frame: true,
+        copy_buffer_to_golden: 0,
+        copy_buffer_to_alternate: 0,
+        sign_bias_golden: false,
+        sign_bias_alternate: false,
+        refresh_entropy_probs: entropy.bit,
+        refresh_last: true,
+    };
+    let after = entropy.dec;
+    RefreshRead {
+        refresh,
+        dec: after,
+    }
+}
+
+fn refresh_inter(area: &[u8], dec: BoolDecoder) -> RefreshRead
+    requires { ⌜ Good (now area) dec 10 ⌝ }
+    ensures { λ r. ⌜ Ran (make refreshOf (refresh false)) (now (area .entry)) dec (r .refresh) (r .dec) 10 ⌝ }
+{
+    let golden = dec.read_flag(area);
+    let alternate = golden.dec.read_flag(area);
+    let to_golden = vp8_fields::byte_if(area, alternate.dec, !golden.bit, 2);
+    let to_alternate = vp8_fields::byte_if(area, to_golden.dec, !alternate.bit, 2);
+    let bias_golden = to_alternate.dec.read_flag(area);
+    let bias_alternate = bias_golden.dec.read_flag(area);
+    let entropy = bias_alternate.dec.read_flag(area);
+    let last = entropy.dec.read_flag(area);
+    let refresh = RefreshFlags {
+        refresh_golden_frame: golden.bit,
+        refresh_alternate_frame: alternate.bit,
+        copy_buffer_to_golden: to_golden.value,
+        copy_buffer_to_alternate: to_alternate.value,
+        sign_bias_golden: bias_golden.bit,
+        sign_bias_alternate: bias_alternate.bit,
+        refresh_entropy_probs: entropy.bit,
+        refresh_last: last.bit,
+    };
+    let after = last.dec;
+    RefreshRead {
+        refresh,
+        dec: after,
+    }
+}
+
+fn parse_refresh(area: &[u8], dec: BoolDecoder, key: bool) -> RefreshRead
+    requires { ⌜ Good (now area) dec 10 ⌝ }
+    ensures { λ r. ⌜ Ran (make refreshOf (refresh key)) (now (area .entry)) dec (r .refresh) (r .dec) 10 ⌝ }
+{
+    if key {
+        refresh_key(area, dec)
+    } else {
+        refresh_inter(area, dec)
+    }
+}
+
+fn parse_second(area: &[u8], dec: BoolDecoder, key: bool, adj: MbLfAdjustments) -> SecondRead
+    requires { ⌜ Good (now area) dec 115 ⌝ }
+    ensures { λ r. ⌜ Ran (make (secondOf adj) (second key)) (now (area .entry)) dec (r .second) (r .dec) 115 ⌝ }
+{
+    let deltas = vp8_fields::parse_mb_lf_adjustments(area, dec, adj);
+    let log2 = vp8_fields::read_byte(area, deltas.dec, 2);
+    let quant = vp8_fields::parse_quant_indices(area, log2.dec);
+    let flags = parse_refresh(area, quant.dec, key);
+    let mb_lf_adjust = deltas.mb_lf_adjust;
+    let quant_indices = quant.quant_indices;
+    let refresh = flags.refresh;
+    let second = Second {
+        mb_lf_adjust,
+        log2_nbr_of_dct_partitions: log2.value,
+        quant_indices,
+        refresh,
+    };
+    let after = flags.dec;
+    SecondRead { second, dec: after }
+}
+
+fn parse_inter(area: &[u8], dec: BoolDecoder, modes: ModeProbs, mv: MvProbs) -> InterRead
+    requires { ⌜ Good (now area) dec 386 ⌝ }
+    ensures { λ r. ⌜ Ran (make (interOf modes mv) inter) (now (area .entry)) dec (r .inter) (r .dec) 386 ⌝ }
+{
+    let intra = vp8_fields::read_byte(area, dec, 8);
+    let last = vp8_fields::read_byte(area, intra.dec, 8);
+    let golden = vp8_fields::read_byte(area, last.dec, 8);
+    let old_luma = modes.intra_16x16_prob;
+    let luma = vp8_fields::parse_intra_16x16_prob_update(area, golden.dec, old_luma);
+    let old_chroma = modes.intra_chroma_prob;
+    let chroma = vp8_fields::parse_intra_chroma_prob_update(area, luma.dec, old_chroma);
+    let motion = vp8_fields::parse_mv_prob_update(area, chroma.dec, mv);
+    let intra_16x16_prob = luma.values;
+    let intra_chroma_prob = chroma.values;
+    let mode_probs = ModeProbs {
+        intra_16x16_prob,
+        intra_chroma_prob,
+    };
+    let mv_prob = motion.mv_prob;
+    let inter = InterFields {
+        prob_intra: intra.value,
+        prob_last: last.value,
+        prob_golden: golden.value,
+        mode_probs,
+        mv_prob,
+    };
+    let after = motion.dec;
+    InterRead { inter, dec: after }
+}
+
+fn parse_inter_if(
+    area: &[u8],
+    dec: BoolDecoder,
+    on: bool,
+    modes: ModeProbs,
+    mv: MvProbs,
+) -> InterRead
+    requires { ⌜ Good (now area) dec 386 ⌝ }
+    ensures { λ r. ⌜ Ran (make (interOf modes mv) (when on inter noInter)) (now (area .entry)) dec (r .inter) (r .dec) 386 ⌝ }
+{
+    if on {
+        parse_inter(area, dec, modes, mv)
+    } else {
+        let inter = InterFields {
+            prob_intra: 0,
+            prob_last: 0,
+            prob_golden: 0,
+            mode_probs: modes,
+            mv_prob: mv,
+        };
+        InterRead { inter, dec }
+    }
+}
+
+fn parse_third(area: &[u8], dec: BoolDecoder, key: bool, parser: Parser) -> ThirdRead
+    requires { ⌜ Good (now area) dec 9899 ⌝ }
+    ensures { λ r. ⌜ Ran (make (thirdOf (probsOf parser)) (third key)) (now (area .entry)) dec (r .third) (r .dec) 9899 ⌝ }
+{
+    let old_coeffs = parser.coeff_prob;
+    let old_modes = parser.mode_probs;
+    let old_mv = parser.mv_prob;
+    let tokens = vp8_fields::parse_token_prob_update(area, dec, old_coeffs);
+    let skip = tokens.dec.read_flag(area);
+    let skip_prob = vp8_fields::byte_if(area, skip.dec, skip.bit, 8);
+    let fields = parse_inter_if(area, skip_prob.dec, !key, old_modes, old_mv);
+    let coeff_prob = tokens.coeff_prob;
+    let inter = fields.inter;
+    let third = Third {
+        coeff_prob,
+        mb_no_coeff_skip: skip.bit,
+        prob_skip_false: skip_prob.value,
+        inter,
+    };
+    let after = fields.dec;
+    ThirdRead { third, dec: after }
+}
+
+// A key frame's header has mode probabilities of its own.
+fn mode_probs_init_defaults(key: bool, kept: ModeProbs) -> ModeProbs
+    ensures { λ r. ⌜ r ≡ pick key keyModes kept ⌝ }
+{
+    if key { ModeProbs::key() } else { kept }
+}
+
+// What is kept: the two records as they were read, and the probabilities only where refresh_entropy_probs is set.
+fn kept(
+    old: Parser,
+    segmentation: Segmentation,
+    mb_lf_adjust: MbLfAdjustments,
+    refresh: bool,
+    third: Third,
+) -> Parser
+    ensures { λ r. ⌜ r ≡ keeping segmentation «mb_lf_adjust» (pick refresh (probsIn third) (probsOf old)) ⌝ }
+{
+    let mut parser = old;
+    parser.segmentation = segmentation;
+    parser.mb_lf_adjust = mb_lf_adjust;
+    if refresh {
+        let coeff_prob = third.coeff_prob;
+        let inter = third.inter;
+        let mv_prob = inter.mv_prob;
+        let mode_probs = inter.mode_probs;
+        parser.coeff_prob = coeff_prob;
+        parser.mv_prob = mv_prob;
+        parser.mode_probs = mode_probs;
+        parser
+    } else {
+        parser
+    }
+}
+
+// The header of what the three stages read; its partition sizes are still to come.
+fn header_of(
+    chunk: DataChunk,
+    first: First,
+    second: Second,
+    third: Third,
+    area: &[u8],
+    dec: BoolDecoder,
+) -> Header
+    requires { ⌜ Over (now area) dec ⌝ }
+    ensures { λ r. ⌜ r ≡ headerFrom chunk first second third (snapshot (bits (now (area .entry))) (stateOf (now (area .entry)) dec)) ⌝ }
+{
+    let width = chunk.width_code % 16384;
+    let height = chunk.height_code % 16384;
+    let inter = third.inter;
+    let refresh = second.refresh;
+    let quant_indices = second.quant_indices;
+    let coeff_prob = third.coeff_prob;
+    let mv_prob = inter.mv_prob;
+    let kept_modes = inter.mode_probs;
+    let mode_probs = mode_probs_init_defaults(chunk.key_frame, kept_modes);
+    let header_size = dec.pos(area);
+    let state = dec.snapshot(area);
+    Header {
+        key_frame: chunk.key_frame,
+        version: chunk.version,
+        show_frame: chunk.show_frame,
+        data_chunk_size: chunk.data_chunk_size,
+        first_part_size: chunk.first_part_size,
+        width,
+        height,
+        horiz_scale_code: (chunk.width_code / 16384) as u8,
+        vert_scale_code: (chunk.height_code / 16384) as u8,
+        color_space: first.color_space,
+        clamping_type: first.clamping_type,
+        filter_type: first.filter_type,
+        loop_filter_level: first.loop_filter_level,
+        sharpness_level: first.sharpness_level,
+        log2_nbr_of_dct_partitions: second.log2_nbr_of_dct_partitions,
+        partition_size: [0; 8],
+        quant_indices,
+        refresh_entropy_probs: refresh.refresh_entropy_probs,
+        refresh_last: refresh.refresh_last,
+        refresh_golden_frame: refresh.refresh_golden_frame,
+        refresh_alternate_frame: refresh.refresh_alternate_frame,
+        copy_buffer_to_golden: refresh.copy_buffer_to_golden,
+        copy_buffer_to_alternate: refresh.copy_buffer_to_alternate,
+        sign_bias_golden: refresh.sign_bias_golden,
+        sign_bias_alternate: refresh.sign_bias_alternate,
+        coeff_prob,
+        mv_prob,
+        mb_no_coeff_skip: third.mb_no_coeff_skip,
+        prob_skip_false: third.prob_skip_false,
+        prob_intra: inter.prob_intra,
+        prob_last: inter.prob_last,
+        prob_golden: inter.prob_golden,
+        mode_probs,
+        bd_range: state.range,
+        bd_value: state.value,
+        bd_count: state.count,
+        header_size,
+        bools: dec.bools,
+        mb_cols: width / 16,
+        mb_rows: height / 16,
+    }
+}
+
+pub fn parse_frame_header(area: &[u8], parser: Parser, chunk: DataChunk) -> Headed
+    ensures { λ r. ⌜ r ≡ headedOf (chunkOf chunk) (now (area .entry)) parser ⌝ }
+{
+    let key = chunk.key_frame;
+    let dec = BoolDecoder::new(area);
+    let old_segmentation = parser.segmentation;
+    let a = parse_first(area, dec, key, old_segmentation);
+    let old_adjust = parser.mb_lf_adjust;
+    let b = parse_second(area, a.dec, key, old_adjust);
+    let c = parse_third(area, b.dec, key, parser);
+    let first = a.first;
+    let second = b.second;
+    let third = c.third;
+    let end = c.dec;
+    let header = header_of(chunk, first, second, third, area, end);
+    let segmentation = first.segmentation;
+    let mb_lf_adjust = second.mb_lf_adjust;
+    let after = kept(
+        parser,
+        segmentation,
+        mb_lf_adjust,
+        header.refresh_entropy_probs,
+        third,
+    );
+    Headed {
+        header,
+        parser: after,
+    }
+}

@@ -1,0 +1,33 @@
+-- The definition's value of each answer of the code.
+use Prim.Native.Nat.{ℕ, _^_}
+use mathlib.Core.Bool.{true, false}
+use mathlib.Core.Option.{Option, none, some}
+use mathlib.Core.List.{List, _++_}
+use lib.ListN.{take, replicate}
+use Rattle.vp8_records.specs.declared.Parser.{Parser}
+use Rattle.vp8_records.specs.declared.Parsed.{Parsed}
+use Rattle.rfc6386.specs.Decoder.{Out, start, bits}
+use Rattle.rfc6386.specs.Reads.{run}
+use Rattle.rfc6386.specs.Coded.{Coded, header}
+use Rattle.rfc6386.specs.Frame.{Chunk, Opened, shut, opened, snapshot, sizes}
+use Rattle.rfc6386.specs.Call.{sized}
+use Rattle.vp8_header.specs.Headed.{chunkOf}
+use Rattle.vp8_parser.specs.declared.ChunkAnswer.{ChunkAnswer}
+use Rattle.vp8_parser.specs.declared.ChunkAnswer.the-variants.{Refused, Read}
+use Rattle.vp8_parser.specs.declared.Sizes.{Sizes}
+
+abbrev pub openedOf : ChunkAnswer → Opened
+openedOf (Refused o) = shut o
+openedOf (Read k) = opened (chunkOf k)
+
+-- unused entries are 0
+abbrev pub sizesOf : Option (List ℕ) → Sizes
+sizesOf none = record { ok = false; sizes = replicate 8 0 }
+sizesOf (some ss) = record { ok = true; sizes = take 8 (ss ++ replicate 8 0) }
+
+-- the answer over an area that is not empty, by a run of the header's tree
+abbrev pub sizedBy : Chunk → List ℕ → Parser → Out Coded → Parsed
+sizedBy k area p o = sized (sizes (2 ^ o .got .log2parts) area (k .first)) k (o .got) (snapshot (bits area) (o .then)) p
+
+unfoldable pub sizedOf : Chunk → List ℕ → Parser → Parsed
+sizedOf k area p = sizedBy k area p (run (header (k .key)) (bits area) (start area))

@@ -1,0 +1,2 @@
+-- What the contracts cite beside the definition: what each answer of the code stands for in it.
+pub mod Answers

@@ -1,0 +1,209 @@
+// The frame of parser.rs: chunk, header, partition sizes, state and outcome, as one call by value.
+use vp8_header::DataChunk;
+use vp8_records::Header;
+use vp8_records::Outcome;
+use vp8_records::Parsed;
+use vp8_records::Parser;
+ghost use mathlib.Core.Path.{_≡_};
+ghost use mathlib.Core.Bool.{true, false};
+ghost use mathlib.Core.Option.{none};
+ghost use Prim.Native.Nat.{_^_, _<_, _≤_};
+ghost use lib.ListN.{length};
+ghost use Rattle.vp8_records.specs.Start.{fresh, blank};
+ghost use Rattle.rfc6386.specs.Decoder.{pick};
+ghost use Rattle.rfc6386.specs.Frame.{tagged, keyChunk, chunk, sizes, body, follows};
+ghost use Rattle.rfc6386.specs.Call.{cleared, base, answer, finish, call};
+ghost use Rattle.vp8_header.specs.Headed.{chunkOf};
+ghost use Rattle.vp8_parser.specs.Answers.{openedOf, sizesOf, sizedOf};
+
+// What the first bytes of a frame are: a chunk, or a refusal.
+pub enum ChunkAnswer {
+    Refused(Outcome),
+    Read(DataChunk),
+}
+
+// The partition sizes, where they end within the area.
+pub struct Sizes {
+    pub ok: bool,
+    pub sizes: [u32; 8],
+}
+
+// The fields of the tag.
+fn tagged(tag: u32, key: bool, size: u8, width: u16, height: u16) -> DataChunk
+    ensures { λ r. ⌜ chunkOf r ≡ tagged tag key size width height ⌝ }
+{
+    DataChunk {
+        key_frame: key,
+        version: (tag / 2 % 8) as u8,
+        show_frame: tag / 16 % 2 == 1,
+        first_part_size: tag / 32,
+        data_chunk_size: size,
+        width_code: width,
+        height_code: height,
+    }
+}
+
+// A key frame's start code and sizes.
+fn key_chunk(bytes: &[u8]) -> ChunkAnswer
+    ensures { λ r. ⌜ openedOf r ≡ keyChunk (now (bytes .entry)) ⌝ }
+{
+    if bytes.len() < 6 {
+        return ChunkAnswer::Refused(Outcome::ChunkTooShort);
+    }
+    let code = bitstream_utils::read_le3(bytes, 3);
+    if code != 0x2a019d {
+        return ChunkAnswer::Refused(Outcome::InvalidStartCode(code));
+    }
+    if bytes.len() < 10 {
+        return ChunkAnswer::Refused(Outcome::ChunkTooShort);
+    }
+    let tag = bitstream_utils::read_le3(bytes, 0);
+    let width = bitstream_utils::read_le2(bytes, 6) as u16;
+    let height = bitstream_utils::read_le2(bytes, 8) as u16;
+    ChunkAnswer::Read(tagged(tag, true, 10, width, height))
+}
+
+pub fn parse_uncompressed_data_chunk(bytes: &[u8]) -> ChunkAnswer
+    ensures { λ r. ⌜ openedOf r ≡ chunk (now (bytes .entry)) ⌝ }
+{
+    if Parser::TOO_LONG <= bytes.len() {
+        return ChunkAnswer::Refused(Outcome::FrameTooLong(bytes.len()));
+    }
+    if bytes.len() < 3 {
+        return ChunkAnswer::Refused(Outcome::ChunkTooShort);
+    }
+    let tag = bitstream_utils::read_le3(bytes, 0);
+    if tag % 2 == 0 {
+        return key_chunk(bytes);
+    }
+    ChunkAnswer::Read(tagged(tag, false, 3, 0, 0))
+}
+
+// How many partitions hold coefficients.
+fn num_dct_partitions(log2: u8) -> usize
+    requires { ⌜ log2 < 4 ⌝ }
+    ensures { λ r. ⌜ r ≡ 2 ^ log2 ⌝ }
+{
+    match log2 {
+        0 => 1,
+        1 => 2,
+        2 => 4,
+        _ => 8,
+    }
+}
+
+fn no_sizes() -> Sizes
+    ensures { λ r. ⌜ r ≡ sizesOf none ⌝ }
+{
+    Sizes {
+        ok: false,
+        sizes: [0; 8],
+    }
+}
+
+// The sizes that are coded, with the last partition, which is the rest.
+fn compute_partition_sizes(area: &[u8], first: u32, log2: u8) -> Sizes
+    requires { ⌜ (log2 < 4) × (length (now area) < 2 ^ 28) ⌝ }
+    ensures { λ r. ⌜ r ≡ sizesOf (sizes (2 ^ log2) (now (area .entry)) first) ⌝ }
+{
+    let count = num_dct_partitions(log2) - 1;
+    let start = first as usize;
+    let from = start + 3 * count;
+    if area.len() < from {
+        return no_sizes();
+    }
+    let mut sizes = [0u32; 8];
+    let mut end = from;
+    let mut i = 0;
+    while i < count {
+        let size = bitstream_utils::read_le3(area, start + 3 * i);
+        sizes[i] = size;
+        end += size as usize;
+        i += 1;
+    }
+    if area.len() < end {
+        return no_sizes();
+    }
+    sizes[count] = (area.len() - end) as u32;
+    Sizes { ok: true, sizes }
+}
+
+// A refusal has the blank header.
+fn refused(outcome: Outcome, parser: Parser) -> Parsed
+    ensures { λ r. ⌜ r ≡ answer outcome blank parser ⌝ }
+{
+    let header = Header::blank();
+    Parsed {
+        outcome,
+        header,
+        parser,
+    }
+}
+
+// The state that a frame starts from: a key frame resets.
+fn base_of(key: bool, parser: Parser) -> Parser
+    ensures { λ r. ⌜ r ≡ pick key fresh parser ⌝ }
+{
+    if key { Parser::new() } else { parser }
+}
+
+// What the failing first read of a header over an empty area leaves.
+fn clear_updates(parser: Parser) -> Parser
+    ensures { λ r. ⌜ r ≡ cleared parser ⌝ }
+{
+    let mut after = parser;
+    after.segmentation.update_mb_segmentation_map = false;
+    after.segmentation.update_segment_feature_data = false;
+    after
+}
+
+// A frame whose area is not empty, over the state that it starts from.
+fn parse_area(parser: Parser, area: &[u8], chunk: DataChunk) -> Parsed
+    requires { ⌜ length (now area) < 2 ^ 28 ⌝ }
+    ensures { λ r. ⌜ r ≡ sizedOf (chunkOf chunk) (now (area .entry)) parser ⌝ }
+{
+    let headed = vp8_header::parse_frame_header(area, parser, chunk);
+    let mut header = headed.header;
+    let after = headed.parser;
+    let parts = compute_partition_sizes(area, chunk.first_part_size, header.log2_nbr_of_dct_partitions);
+    if parts.ok {
+        let sizes = parts.sizes;
+        header.partition_size = sizes;
+        Parsed {
+            outcome: Outcome::Accepted,
+            header,
+            parser: after,
+        }
+    } else {
+        refused(Outcome::EndOfHeader, after)
+    }
+}
+
+// What follows the chunk.
+fn parse_body(parser: Parser, bytes: &[u8], chunk: DataChunk) -> Parsed
+    requires { ⌜ length (now bytes) < 2 ^ 28 ⌝ }
+    ensures { λ r. ⌜ r ≡ finish (follows (chunkOf chunk) (body (chunkOf chunk) (now (bytes .entry)))) parser ⌝ }
+{
+    let at = chunk.data_chunk_size as usize;
+    let end = at + chunk.first_part_size as usize;
+    let from = base_of(chunk.key_frame, parser);
+    if bytes.len() < end {
+        return refused(Outcome::InvalidPartitionSize(end, bytes.len()), from);
+    }
+    let area = &bytes[at..];
+    if area.len() == 0 {
+        return refused(Outcome::EmptyArea, clear_updates(from));
+    }
+    parse_area(from, area, chunk)
+}
+
+// One call: every slice gets an answer.
+pub fn parse(parser: Parser, bytes: &[u8]) -> Parsed
+    ensures { λ r. ⌜ r ≡ call parser (now (bytes .entry)) ⌝ }
+{
+    let opened = parse_uncompressed_data_chunk(bytes);
+    match opened {
+        ChunkAnswer::Refused(outcome) => refused(outcome, parser),
+        ChunkAnswer::Read(chunk) => parse_body(parser, bytes, chunk),
+    }
+}
