@@ -35,12 +35,12 @@ cuts-are (n ∷ ns) f e =
     let first : length (take n f) ≡ n = length-take-le n f (omega (arith, e)) in
     (ap₂ {C = List ℕ} (λ x xs. x ∷ xs) first (r .0), ap {B = List ℕ} (λ xs. take n f ++ xs) (r .1) ∙ take-append-drop n f)
 
-sum-append : (xs ys : List ℕ) → sum (xs ++ ys) ≡ sum xs + sum ys
+pub sum-append : (xs ys : List ℕ) → sum (xs ++ ys) ≡ sum xs + sum ys
 unfolding sum
 sum-append [] ys = omega arith
 sum-append (x ∷ xs) ys = omega (arith, sum-append xs ys)
 
-length-coded : (k : ℕ) (area : List ℕ) (i : ℕ) → length (codedSizes k area i) ≡ k
+pub length-coded : (k : ℕ) (area : List ℕ) (i : ℕ) → length (codedSizes k area i) ≡ k
 unfolding codedSizes
 length-coded zero area i = refl
 length-coded (suc k) area i = ap suc (length-coded k area (i + 3))
@@ -73,17 +73,17 @@ sizes-fill n area first ss h e = go (ltb (length area) from) refl (ltb (length a
         (ap length (sym is) ∙ length-append coded (last ∷ []) ∙ omega (arith, length-coded (n - 1) area first), omega (arith, total, one, fits))
 
 -- the header codes at most 8 partitions
-abbrev P : Coded → Type 0
-P c = c .log2parts < 4
+abbrev pub FewParts : Coded → Type 0
+FewParts c = c .log2parts < 4
 
-few-parts : (key : Bool) → Always P (header key)
+pub few-parts : (key : Bool) → Always FewParts (header key)
 unfolding header
 few-parts key =
-    always-skip P (when key flag false) _ (λ cs. always-skip P (when key flag false) _ (λ ct. always-skip P segments _ (λ sg.
-    always-skip P flag _ (λ ft. always-skip P (lit 6) _ (λ ll. always-skip P (lit 3) _ (λ sh. always-skip P deltas _ (λ ds.
-    always-bind (λ x. x < 4) P (lit 2) _ (lit-small 2) (λ lp h. always-skip P quant _ (λ q. always-skip P (refresh key) _ (λ rf.
-    always-skip P coefficients _ (λ co. always-skip P flag _ (λ sk. always-skip P (when sk (lit 8) 0) _ (λ sp.
-    always-skip P (when (not key) inter noInter) _ (λ it. always-ret P _ h))))))))))))))
+    always-skip FewParts (when key flag false) _ (λ cs. always-skip FewParts (when key flag false) _ (λ ct. always-skip FewParts segments _ (λ sg.
+    always-skip FewParts flag _ (λ ft. always-skip FewParts (lit 6) _ (λ ll. always-skip FewParts (lit 3) _ (λ sh. always-skip FewParts deltas _ (λ ds.
+    always-bind (λ x. x < 4) FewParts (lit 2) _ (lit-small 2) (λ lp h. always-skip FewParts quant _ (λ q. always-skip FewParts (refresh key) _ (λ rf.
+    always-skip FewParts coefficients _ (λ co. always-skip FewParts flag _ (λ sk. always-skip FewParts (when sk (lit 8) 0) _ (λ sp.
+    always-skip FewParts (when (not key) inter noInter) _ (λ it. always-ret FewParts _ h))))))))))))))
 
 -- n is 1, 2, 4 or 8
 few-partitions : (x : ℕ) → x < 4 → 2 ^ x ≤ 8

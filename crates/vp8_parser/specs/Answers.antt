@@ -9,21 +9,28 @@ use Rattle.vp8_records.specs.declared.Parsed.{Parsed}
 use Rattle.rfc6386.specs.Decoder.{Out, start, bits}
 use Rattle.rfc6386.specs.Reads.{run}
 use Rattle.rfc6386.specs.Coded.{Coded, header}
-use Rattle.rfc6386.specs.Frame.{Chunk, Opened, shut, opened, snapshot, sizes}
+use Rattle.rfc6386.specs.Frame.{Chunk, Opened, shut, opened, snapshot, sum, sizes}
 use Rattle.rfc6386.specs.Call.{sized}
 use Rattle.vp8_header.specs.Headed.{chunkOf}
 use Rattle.vp8_parser.specs.declared.ChunkAnswer.{ChunkAnswer}
 use Rattle.vp8_parser.specs.declared.ChunkAnswer.the-variants.{Refused, Read}
+use Rattle.vp8_parser.specs.declared.Listed.{Listed}
 use Rattle.vp8_parser.specs.declared.Sizes.{Sizes}
 
 abbrev pub openedOf : ChunkAnswer → Opened
 openedOf (Refused o) = shut o
 openedOf (Read k) = opened (chunkOf k)
 
--- unused entries are 0
+-- sizes in an array; unused entries are 0
+abbrev pub padded : List ℕ → List ℕ
+padded ss = take 8 (ss ++ replicate 8 0)
+
+abbrev pub listedOf : List ℕ → Listed
+listedOf ss = record { sizes = padded ss; total = sum ss }
+
 abbrev pub sizesOf : Option (List ℕ) → Sizes
 sizesOf none = record { ok = false; sizes = replicate 8 0 }
-sizesOf (some ss) = record { ok = true; sizes = take 8 (ss ++ replicate 8 0) }
+sizesOf (some ss) = record { ok = true; sizes = padded ss }
 
 -- the answer over an area that is not empty, by a run of the header's tree
 abbrev pub sizedBy : Chunk → List ℕ → Parser → Out Coded → Parsed

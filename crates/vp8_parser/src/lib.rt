@@ -11,10 +11,10 @@ ghost use Prim.Native.Nat.{_^_, _<_, _≤_};
 ghost use lib.ListN.{length};
 ghost use Rattle.vp8_records.specs.Start.{fresh, blank};
 ghost use Rattle.rfc6386.specs.Decoder.{pick};
-ghost use Rattle.rfc6386.specs.Frame.{tagged, keyChunk, chunk, sizes, body, follows};
-ghost use Rattle.rfc6386.specs.Call.{cleared, base, answer, finish, call};
+ghost use Rattle.rfc6386.specs.Frame.{tagged, keyChunk, chunk, codedSizes, sizes, body, follows};
+ghost use Rattle.rfc6386.specs.Call.{cleared, answer, finish, call};
 ghost use Rattle.vp8_header.specs.Headed.{chunkOf};
-ghost use Rattle.vp8_parser.specs.Answers.{openedOf, sizesOf, sizedOf};
+ghost use Rattle.vp8_parser.specs.Answers.{openedOf, listedOf, sizesOf, sizedOf};
 
 // What the first bytes of a frame are: a chunk, or a refusal.
 pub enum ChunkAnswer {
@@ -22,10 +22,15 @@ pub enum ChunkAnswer {
     Read(DataChunk),
 }
 
-// The partition sizes, where they end within the area.
+// The partition sizes, where they end within the area; before that, those that are coded, with their sum.
 pub struct Sizes {
     pub ok: bool,
     pub sizes: [u32; 8],
+}
+
+pub struct Listed {
+    pub sizes: [u32; 8],
+    pub total: usize,
 }
 
 // The fields of the tag.
@@ -82,7 +87,7 @@ pub fn parse_uncompressed_data_chunk(bytes: &[u8]) -> ChunkAnswer
 // How many partitions hold coefficients.
 fn num_dct_partitions(log2: u8) -> usize
     requires { ⌜ log2 < 4 ⌝ }
-    ensures { λ r. ⌜ r ≡ 2 ^ log2 ⌝ }
+    ensures { λ r. ⌜ (r ≡ 2 ^ log2) × (1 ≤ r) × (r ≤ 8) ⌝ }
 {
     match log2 {
         0 => 1,
@@ -101,30 +106,39 @@ fn no_sizes() -> Sizes
     }
 }
 
+// The sizes that are coded, 3 bytes each, and their sum.
+fn coded_sizes(area: &[u8], start: u32, count: usize) -> Listed
+    requires { ⌜ count ≤ 7 ⌝ }
+    ensures { λ r. ⌜ r ≡ listedOf (codedSizes count (now (area .entry)) start) ⌝ }
+{
+    let mut sizes = [0u32; 8];
+    let mut total: usize = 0;
+    let mut i = 0;
+    while i < count {
+        let size = bitstream_utils::read_le3(area, start as usize + 3 * i);
+        sizes[i] = size;
+        total += size as usize;
+        i += 1;
+    }
+    Listed { sizes, total }
+}
+
 // The sizes that are coded, with the last partition, which is the rest.
 fn compute_partition_sizes(area: &[u8], first: u32, log2: u8) -> Sizes
     requires { ⌜ (log2 < 4) × (length (now area) < 2 ^ 28) ⌝ }
     ensures { λ r. ⌜ r ≡ sizesOf (sizes (2 ^ log2) (now (area .entry)) first) ⌝ }
 {
     let count = num_dct_partitions(log2) - 1;
-    let start = first as usize;
-    let from = start + 3 * count;
+    let from = first as usize + 3 * count;
     if area.len() < from {
         return no_sizes();
     }
-    let mut sizes = [0u32; 8];
-    let mut end = from;
-    let mut i = 0;
-    while i < count {
-        let size = bitstream_utils::read_le3(area, start + 3 * i);
-        sizes[i] = size;
-        end += size as usize;
-        i += 1;
-    }
-    if area.len() < end {
+    let coded = coded_sizes(area, first, count);
+    if area.len() - from < coded.total {
         return no_sizes();
     }
-    sizes[count] = (area.len() - end) as u32;
+    let mut sizes = coded.sizes;
+    sizes[count] = (area.len() - from - coded.total) as u32;
     Sizes { ok: true, sizes }
 }
 
@@ -165,7 +179,11 @@ fn parse_area(parser: Parser, area: &[u8], chunk: DataChunk) -> Parsed
     let headed = vp8_header::parse_frame_header(area, parser, chunk);
     let mut header = headed.header;
     let after = headed.parser;
-    let parts = compute_partition_sizes(area, chunk.first_part_size, header.log2_nbr_of_dct_partitions);
+    let parts = compute_partition_sizes(
+        area,
+        chunk.first_part_size,
+        header.log2_nbr_of_dct_partitions,
+    );
     if parts.ok {
         let sizes = parts.sizes;
         header.partition_size = sizes;

@@ -1,140 +1,114 @@
+-- Each test answers the definition's; the last size goes behind those that are coded. Assumes nothing.
+use Prim.Native.Nat.{ℕ, _+_, _*_, _-_}
+use native.Mathlib.Omega.{arith}
+use mathlib.Core.Path.{_≡_, ap, sym, _∙_}
+use mathlib.Core.Bool.{true}
+use mathlib.Core.List.{List, [], _∷_, _++_}
+use lib.ListN.{length, set}
+use denote.Ref.{now}
+use borrow.Author.Needs.{needs}
+use Rattle.rfc6386.specs.Frame.{codedSizes, sum, sizes}
+use Rattle.rfc6386.proofs.Fills.{length-coded}
+use Rattle.vp8_parser.specs.declared.Listed.{Listed}
+use Rattle.vp8_parser.specs.Answers.{padded, sizesOf}
+use Rattle.vp8_parser.proofs.Frames.{sizes-unread, sizes-beyond, sizes-are}
+use Rattle.vp8_parser.proofs.Partitions.{padded-more}
+use Rattle.rfc6386.specs.Frame.{codedSizes, sum, sizes}
 use Rattle.vp8_parser.proofs.compute_partition_sizes.Statement.{statement}
 use Rattle.vp8_parser.proofs.compute_partition_sizes.Tie as tie
-use Rattle.vp8_parser.proofs.compute_partition_sizes.Reads as reads
-use Rattle.vp8_parser.proofs.compute_partition_sizes.Lts as lts
-use Rattle.bitstream_utils.proofs.read_le3.Reads as read-le3-reads
-use Rattle.vp8_parser.proofs.no_sizes.Reads as no-sizes-reads
-use Rattle.vp8_parser.proofs.num_dct_partitions.Reads as num-dct-partitions-reads
 
-abbrev Inv-loop : tie.InvT-loop
-Inv-loop area first log2 count start from sizes₀ end₀ i₀ sizes end i = ?
+num-dct-partitions-requires : tie.Need-num-dct-partitions-requires
+num-dct-partitions-requires c κs = search needs
 
-abbrev μ-loop : tie.MeasureT-loop
-μ-loop area first log2 count start from sizes₀ end₀ i₀ sizes end i = ?
+sub-count : tie.Need-sub-count
+sub-count c = search needs
 
--- src/lib.rt:109:17
-num-dct-partitions-requires : tie.Need-num-dct-partitions-requires Inv-loop μ-loop
-num-dct-partitions-requires c κs = ?
+mul-from : tie.Need-mul-from
+mul-from c = search needs
 
--- src/lib.rt:109:17
-sub-count : tie.Need-sub-count Inv-loop μ-loop
-sub-count c = ?
+add-from : tie.Need-add-from
+add-from c = search needs
 
--- src/lib.rt:111:24
-mul-from : tie.Need-mul-from Inv-loop μ-loop
-mul-from c = ?
+no-sizes-requires : tie.Need-no-sizes-requires
+no-sizes-requires c κs = search needs
 
--- src/lib.rt:111:16
-add-from : tie.Need-add-from Inv-loop μ-loop
-add-from c = ?
+returns : tie.Need-returns
+returns c =
+    let a = c .before .before .before .before .args in
+    let n = c .before .before .num-dct-partitions .ensures in
+    let e = sizes-unread (c .before .before .num-dct-partitions .result) (now (a .area)) (a .first) (c .before .if1 .taken) in
+    c .no-sizes .ensures ∙ ap sizesOf (sym (rw (n .0) at e))
 
--- src/lib.rt:113:9
-no-sizes-requires : tie.Need-no-sizes-requires Inv-loop μ-loop
-no-sizes-requires c κs = ?
+coded-sizes-requires : tie.Need-coded-sizes-requires
+coded-sizes-requires c κs = search needs
 
--- src/lib.rt:113:9
-returns : tie.Need-returns Inv-loop μ-loop
-returns c = ?
+sub-if2 : tie.Need-sub-if2
+sub-if2 c = search needs
 
--- src/lib.rt:118:5
-loop-holds : tie.Need-loop-holds Inv-loop μ-loop
-loop-holds c = ?
+no-sizes-requires-2 : tie.Need-no-sizes-requires-2
+no-sizes-requires-2 c κs = search needs
 
--- src/lib.rt:119:60
-mul-read-le3 : tie.Need-mul-read-le3 Inv-loop μ-loop
-mul-read-le3 c = ?
+returns-2 : tie.Need-returns-2
+returns-2 c =
+    let a = c .before .before .before .before .before .before .before .args in
+    let n = c .before .before .before .before .before .num-dct-partitions .ensures in
+    let total = ap (λ (x : Listed). x .total) (c .before .before .before .coded-sizes .ensures) in
+    let e = sizes-beyond (c .before .before .before .before .before .num-dct-partitions .result) (now (a .area)) (a .first) (c .before .before .before .before .if1 .left) (omega (arith, total, c .before .if2 .taken, c .before .before .before .before .if1 .left)) in
+    c .no-sizes2 .ensures ∙ ap sizesOf (sym (rw (n .0) at e))
 
--- src/lib.rt:119:52
-add-read-le3 : tie.Need-add-read-le3 Inv-loop μ-loop
-add-read-le3 c = ?
+sub-sizes : tie.Need-sub-sizes
+sub-sizes c = search needs
 
--- src/lib.rt:119:13
-read-le3-requires : tie.Need-read-le3-requires Inv-loop μ-loop
-read-le3-requires c κs = ?
+sub-sizes-2 : tie.Need-sub-sizes-2
+sub-sizes-2 c = search needs
 
--- src/lib.rt:120:9
-mul-sizes : tie.Need-mul-sizes Inv-loop μ-loop
-mul-sizes c = ?
+cast-sizes : tie.Need-cast-sizes
+cast-sizes c = search needs
 
--- src/lib.rt:120:9
-array-write-sizes : tie.Need-array-write-sizes Inv-loop μ-loop
-array-write-sizes c = ?
+mul-sizes : tie.Need-mul-sizes
+mul-sizes c = search needs
 
--- src/lib.rt:121:16
-cast-end : tie.Need-cast-end Inv-loop μ-loop
-cast-end c = ?
+array-write-sizes : tie.Need-array-write-sizes
+array-write-sizes c = search needs
 
--- src/lib.rt:121:9
-add-end : tie.Need-add-end Inv-loop μ-loop
-add-end c = ?
-
--- src/lib.rt:122:9
-add-i : tie.Need-add-i Inv-loop μ-loop
-add-i c = ?
-
--- src/lib.rt:118:5
-loop-less : tie.Need-loop-less Inv-loop μ-loop
-loop-less c = ?
-
--- src/lib.rt:118:5
-loop-again : tie.Need-loop-again Inv-loop μ-loop
-loop-again c = ?
-
--- src/lib.rt:125:9
-no-sizes-requires-2 : tie.Need-no-sizes-requires-2 Inv-loop μ-loop
-no-sizes-requires-2 c κs = ?
-
--- src/lib.rt:125:9
-returns-2 : tie.Need-returns-2 Inv-loop μ-loop
-returns-2 c = ?
-
--- src/lib.rt:127:21
-sub-sizes : tie.Need-sub-sizes Inv-loop μ-loop
-sub-sizes c = ?
-
--- src/lib.rt:127:20
-cast-sizes : tie.Need-cast-sizes Inv-loop μ-loop
-cast-sizes c = ?
-
--- src/lib.rt:127:5
-mul-sizes-2 : tie.Need-mul-sizes-2 Inv-loop μ-loop
-mul-sizes-2 c = ?
-
--- src/lib.rt:127:5
-array-write-sizes-2 : tie.Need-array-write-sizes-2 Inv-loop μ-loop
-array-write-sizes-2 c = ?
-
--- src/lib.rt:105:1
-returns-3 : tie.Need-returns-3 Inv-loop μ-loop
-returns-3 c = ?
+returns-3 : tie.Need-returns-3
+returns-3 c =
+    let a = c .before .before .before .before .before .before .before .before .args in
+    let n : ℕ = c .before .before .before .before .before .before .num-dct-partitions .result in
+    let eight = c .before .before .before .before .before .before .num-dct-partitions .ensures in
+    let coded = c .before .before .before .before .coded-sizes .ensures in
+    let area : List ℕ = now (a .area) in
+    let xs : List ℕ = codedSizes (n - 1) area (a .first) in
+    let from : ℕ = a .first + 3 * (n - 1) in
+    let total : c .before .before .before .before .coded-sizes .result .total ≡ sum xs = ap (λ (x : Listed). x .total) coded in
+    let whole = sizes-are n area (a .first) (c .before .before .before .before .before .if1 .left) (omega (arith, total, c .before .before .if2 .left, c .before .before .before .before .before .if1 .left)) in
+    let last : length area - from - c .before .before .before .before .coded-sizes .result .total ≡ length area - (from + sum xs) = omega (arith, total) in
+    (λ i. record {
+      ok = true;
+      sizes =
+          (ap (λ (x : Listed). set (x .sizes) (n - 1) (length area - from - c .before .before .before .before .coded-sizes .result .total)) coded
+          ∙ padded-more xs (n - 1) _ (length-coded (n - 1) area (a .first)) (omega (arith, eight .1, eight .2))
+          ∙ ap (λ (x : ℕ). padded (xs ++ (x ∷ []))) last) i;
+    })
+    ∙ ap sizesOf (sym whole) ∙ ap (λ (m : ℕ). sizesOf (sizes m area (a .first))) (eight .0)
 
 pub compute-partition-sizes-spec : {M : Type 1} → statement M
 compute-partition-sizes-spec =
     tie.close
     (tie.spec
-    Inv-loop
-    μ-loop
     num-dct-partitions-requires
     sub-count
     mul-from
     add-from
     no-sizes-requires
     returns
-    loop-holds
-    mul-read-le3
-    add-read-le3
-    read-le3-requires
-    mul-sizes
-    array-write-sizes
-    cast-end
-    add-end
-    add-i
-    loop-less
-    loop-again
+    coded-sizes-requires
+    sub-if2
     no-sizes-requires-2
     returns-2
     sub-sizes
+    sub-sizes-2
     cast-sizes
-    mul-sizes-2
-    array-write-sizes-2
+    mul-sizes
+    array-write-sizes
     returns-3)

@@ -1,55 +1,52 @@
+-- Each test answers the definition's; two bytes are below 65,536. Assumes nothing.
+use native.Mathlib.Omega.{arith}
+use mathlib.Core.Path.{ap, _∙_}
 use borrow.Author.Needs.{needs}
+use Rattle.rfc6386.specs.Frame.{opened}
+use Rattle.vp8_parser.proofs.Opens.{key-short, key-other, key-cut, key-whole}
+use Rattle.rfc6386.specs.Frame.{opened, tagged}
+use Rattle.rfc6386.specs.Frame.{opened}
 use Rattle.vp8_parser.proofs.key_chunk.Statement.{statement}
 use Rattle.vp8_parser.proofs.key_chunk.Tie as tie
-use Rattle.vp8_parser.proofs.key_chunk.Reads as reads
-use Rattle.vp8_parser.proofs.key_chunk.Lts as lts
-use Rattle.bitstream_utils.proofs.read_le2.Reads as read-le2-reads
-use Rattle.bitstream_utils.proofs.read_le3.Reads as read-le3-reads
-use Rattle.vp8_parser.proofs.tagged.Reads as tagged-reads
 
--- src/lib.rt:51:9
 returns : tie.Need-returns
-returns c = ?
+returns c = key-short _ (c .if1 .taken)
 
--- src/lib.rt:53:9
 read-le3-requires : tie.Need-read-le3-requires
 read-le3-requires c κs = search needs
 
--- src/lib.rt:55:9
 returns-2 : tie.Need-returns-2
-returns-2 c = ?
+returns-2 c = key-other _ _ (c .before .before .if1 .left) (c .before .read-le3 .ensures) (c .if2 .taken)
 
--- src/lib.rt:58:9
 returns-3 : tie.Need-returns-3
-returns-3 c = ?
+returns-3 c = key-cut _ _ (c .before .before .before .if1 .left) (c .before .before .read-le3 .ensures) (c .before .if2 .left) (c .if3 .taken)
 
--- src/lib.rt:60:9
 read-le3-requires-2 : tie.Need-read-le3-requires-2
 read-le3-requires-2 c κs = search needs
 
--- src/lib.rt:61:17
 read-le2-requires : tie.Need-read-le2-requires
 read-le2-requires c κs = search needs
 
--- src/lib.rt:61:17
 cast-width : tie.Need-cast-width
-cast-width c = ?
+cast-width c =
+    let given = c .before .before .before .before .before .before .shared-slice-known .given in
+    record { fits = omega (arith, c .read-le2 .ensures, given 6, given 7) }
 
--- src/lib.rt:62:18
 read-le2-requires-2 : tie.Need-read-le2-requires-2
 read-le2-requires-2 c κs = search needs
 
--- src/lib.rt:62:18
 cast-height : tie.Need-cast-height
-cast-height c = ?
+cast-height c =
+    let given = c .before .before .before .before .before .before .before .shared-slice-known .given in
+    record { fits = omega (arith, c .read-le22 .ensures, given 8, given 9) }
 
--- src/lib.rt:63:23
 tagged-requires : tie.Need-tagged-requires
 tagged-requires c κs = search needs
 
--- src/lib.rt:47:1
 returns-4 : tie.Need-returns-4
-returns-4 c = ?
+returns-4 c =
+    ap opened (c .tagged .ensures)
+    ∙ key-whole _ _ _ _ _ (c .before .before .before .before .before .before .read-le3 .ensures) (c .before .before .before .before .before .if2 .left) (c .before .before .before .before .if3 .left) (c .before .before .before .read-le32 .ensures) (c .before .before .read-le2 .ensures) (c .before .read-le22 .ensures)
 
 pub key-chunk-spec : {M : Type 1} → statement M
 key-chunk-spec =

@@ -1,39 +1,36 @@
+-- Each test answers the definition's. Assumes nothing.
+use Prim.Native.Nat.{ℕ}
+use mathlib.Core.Path.{ap, _∙_}
+use mathlib.Core.Bool.{false}
 use borrow.Author.Needs.{needs}
+use Rattle.rfc6386.specs.Frame.{opened, tagged}
+use Rattle.vp8_parser.proofs.Opens.{chunk-long, chunk-short, chunk-key, chunk-inter}
+use Rattle.rfc6386.specs.Frame.{opened}
 use Rattle.vp8_parser.proofs.parse_uncompressed_data_chunk.Statement.{statement}
 use Rattle.vp8_parser.proofs.parse_uncompressed_data_chunk.Tie as tie
-use Rattle.vp8_parser.proofs.parse_uncompressed_data_chunk.Reads as reads
-use Rattle.vp8_parser.proofs.parse_uncompressed_data_chunk.Lts as lts
-use Rattle.bitstream_utils.proofs.read_le3.Reads as read-le3-reads
-use Rattle.vp8_parser.proofs.key_chunk.Reads as key-chunk-reads
-use Rattle.vp8_parser.proofs.tagged.Reads as tagged-reads
 
--- src/lib.rt:70:9
 returns : tie.Need-returns
-returns c = ?
+returns c = chunk-long _ (c .if1 .taken)
 
--- src/lib.rt:73:9
 returns-2 : tie.Need-returns-2
-returns-2 c = ?
+returns-2 c = chunk-short _ (c .before .if1 .left) (c .if2 .taken)
 
--- src/lib.rt:75:9
 read-le3-requires : tie.Need-read-le3-requires
 read-le3-requires c κs = search needs
 
--- src/lib.rt:77:9
 key-chunk-requires : tie.Need-key-chunk-requires
 key-chunk-requires c κs = search needs
 
--- src/lib.rt:77:9
 returns-3 : tie.Need-returns-3
-returns-3 c = ?
+returns-3 c = c .key-chunk .ensures ∙ chunk-key _ (c .before .before .before .before .if1 .left) (c .before .before .before .if2 .left) (rw (c .before .before .read-le3 .ensures) at (c .before .if3 .taken))
 
--- src/lib.rt:79:23
 tagged-requires : tie.Need-tagged-requires
 tagged-requires c κs = search needs
 
--- src/lib.rt:66:1
 returns-4 : tie.Need-returns-4
-returns-4 c = ?
+returns-4 c =
+    ap opened (c .tagged .ensures) ∙ ap (λ (tag : ℕ). opened (tagged tag false 3 0 0)) (c .before .before .read-le3 .ensures)
+    ∙ chunk-inter _ (c .before .before .before .before .if1 .left) (c .before .before .before .if2 .left) (rw (c .before .before .read-le3 .ensures) at (c .before .if3 .left))
 
 pub parse-uncompressed-data-chunk-spec : {M : Type 1} → statement M
 parse-uncompressed-data-chunk-spec =

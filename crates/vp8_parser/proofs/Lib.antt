@@ -1,0 +1,4 @@
+-- Laws of sizes, of chunks and of what follows one.
+pub mod Partitions
+pub mod Opens
+pub mod Frames

@@ -1,0 +1,50 @@
+-- By what the first bytes are. Assumes nothing.
+use mathlib.Core.Path.{ap, _∙_}
+use denote.Ref.{now}
+use borrow.Author.Needs.{needs}
+use Rattle.rfc6386.specs.Frame.{Opened, inside, decode}
+use Rattle.rfc6386.specs.Call.{finish, call}
+use Rattle.vp8_parser.proofs.Opens.{opened-fits}
+use Rattle.vp8_parser.proofs.parse.Statement.{statement}
+use Rattle.vp8_parser.proofs.parse.Tie as tie
+
+parse-uncompressed-data-chunk-requires : tie.Need-parse-uncompressed-data-chunk-requires
+parse-uncompressed-data-chunk-requires c κs = search needs
+
+enum-known-opened : tie.Need-enum-known-opened
+enum-known-opened c = search needs
+
+refused-requires : tie.Need-refused-requires
+refused-requires c κs = search needs
+
+enum-known-opened-2 : tie.Need-enum-known-opened-2
+enum-known-opened-2 c = search needs
+
+parse-body-requires : tie.Need-parse-body-requires
+parse-body-requires c κs = opened-fits _ _ (rw (c .before .opened2 .given .1) at (c .before .before .before .parse-uncompressed-data-chunk .ensures))
+
+returns : tie.Need-returns
+unfolding call decode
+returns c =
+    let a = c .before .before .before .before .before .before .args in
+    c .refused .ensures
+    ∙ ap (λ (x : Opened). finish (inside x (now (a .bytes))) (a .parser)) (rw (c .before .before .opened .given .1) at (c .before .before .before .before .parse-uncompressed-data-chunk .ensures))
+
+returns-2 : tie.Need-returns-2
+unfolding call decode
+returns-2 c =
+    let a = c .before .before .before .before .before .before .args in
+    c .parse-body .ensures
+    ∙ ap (λ (x : Opened). finish (inside x (now (a .bytes))) (a .parser)) (rw (c .before .before .opened2 .given .1) at (c .before .before .before .before .parse-uncompressed-data-chunk .ensures))
+
+pub parse-spec : {M : Type 1} → statement M
+parse-spec =
+    tie.close
+    (tie.spec
+    parse-uncompressed-data-chunk-requires
+    enum-known-opened
+    refused-requires
+    enum-known-opened-2
+    parse-body-requires
+    returns
+    returns-2)

@@ -1,0 +1,57 @@
+-- The header and the sizes are the definition's; the answer goes by the sizes. Assumes nothing.
+use Prim.Native.Nat.{ℕ, _^_}
+use mathlib.Core.Path.{_≡_, _∙_}
+use mathlib.Core.Option.{Option}
+use mathlib.Core.List.{List}
+use denote.Ref.{now}
+use borrow.Author.Needs.{needs}
+use Rattle.rfc6386.specs.Frame.{sizes}
+use Rattle.rfc6386.specs.Call.{headerOf}
+use Rattle.vp8_header.specs.Headed.{chunkOf, headedOf}
+use Rattle.vp8_parser.specs.Answers.{sizesOf, sizedOf}
+use Rattle.vp8_parser.proofs.Frames.{few, found, missing}
+use Rattle.vp8_header.specs.Headed.{headedOf}
+use Rattle.vp8_parser.proofs.parse_area.Statement.{statement}
+use Rattle.vp8_parser.proofs.parse_area.Tie as tie
+
+parse-frame-header-requires : tie.Need-parse-frame-header-requires
+parse-frame-header-requires c κs = search needs
+
+compute-partition-sizes-requires : tie.Need-compute-partition-sizes-requires
+unfolding headedOf headerOf
+compute-partition-sizes-requires c κs =
+    let a = c .before .before .before .before .args in
+    (rw (c .before .before .parse-frame-header .ensures) (few (a .chunk .«key_frame») (now (a .area))), c .before .before .before .before .pre)
+
+refused-requires : tie.Need-refused-requires
+refused-requires c κs = search needs
+
+returns : tie.Need-returns
+unfolding headedOf headerOf sizedOf
+returns c =
+    let a = c .before .before .before .before .before .before .before .args in
+    let h = c .before .before .before .before .before .parse-frame-header .ensures in
+    let q : Option (List ℕ) = sizes (2 ^ headedOf (chunkOf (a .chunk)) (now (a .area)) (a .parser) .header .«log2_nbr_of_dct_partitions») (now (a .area)) (a .chunk .«first_part_size») in
+    let r : c .before .before .compute-partition-sizes .result ≡ sizesOf q = rw h at (c .before .before .compute-partition-sizes .ensures) in
+    let x = found q (c .before .before .compute-partition-sizes .result) r (c .before .if1 .taken) in
+    rw (h, r, x .1)
+
+returns-2 : tie.Need-returns-2
+unfolding headedOf headerOf sizedOf
+returns-2 c =
+    let a = c .before .before .before .before .before .before .before .args in
+    let h = c .before .before .before .before .before .parse-frame-header .ensures in
+    let q : Option (List ℕ) = sizes (2 ^ headedOf (chunkOf (a .chunk)) (now (a .area)) (a .parser) .header .«log2_nbr_of_dct_partitions») (now (a .area)) (a .chunk .«first_part_size») in
+    let r : c .before .before .compute-partition-sizes .result ≡ sizesOf q = rw h at (c .before .before .compute-partition-sizes .ensures) in
+    let x = missing q (c .before .before .compute-partition-sizes .result) r (c .before .if1 .left) in
+    c .refused .ensures ∙ rw (h, x)
+
+pub parse-area-spec : {M : Type 1} → statement M
+parse-area-spec =
+    tie.close
+    (tie.spec
+    parse-frame-header-requires
+    compute-partition-sizes-requires
+    refused-requires
+    returns
+    returns-2)
