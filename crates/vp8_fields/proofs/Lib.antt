@@ -4,3 +4,4 @@ pub mod Loops
 pub mod Made
 pub mod Signs
 pub mod Shapes
+pub mod Same
