@@ -2,3 +2,4 @@
 pub mod Partitions
 pub mod Opens
 pub mod Frames
+pub mod Same

@@ -1,0 +1,41 @@
+-- Any two answers that a contract admits are equal: the contracts are equations with the definition. Assumes nothing.
+use Prim.Native.Nat.{ℕ}
+use mathlib.Core.Path.{_≡_, sym, ap, _∙_}
+use mathlib.Core.Bool.{Bool}
+use mathlib.Core.List.{List}
+use native.Mathlib.Omega.{arith}
+use Rattle.vp8_records.specs.declared.Outcome.{Outcome}
+use Rattle.vp8_records.specs.declared.Parsed.{Parsed}
+use Rattle.vp8_records.specs.declared.Parser.{Parser}
+use Rattle.rfc6386.specs.Frame.{Chunk, Opened, shut, opened, chunk}
+use Rattle.rfc6386.specs.Call.{call}
+use Rattle.vp8_header.specs.declared.DataChunk.{DataChunk}
+use Rattle.vp8_header.specs.Headed.{chunkOf}
+use Rattle.vp8_parser.specs.declared.ChunkAnswer.{ChunkAnswer}
+use Rattle.vp8_parser.specs.declared.ChunkAnswer.the-variants.{Refused, Read}
+use Rattle.vp8_parser.specs.Answers.{openedOf}
+
+-- a chunk of the code is the definition's chunk, field by field
+same-chunk : (k j : DataChunk) → chunkOf k ≡ chunkOf j → k ≡ j
+same-chunk k j e i = record {
+  «key_frame» = e i .key;
+  version = e i .version;
+  «show_frame» = e i .show;
+  «first_part_size» = e i .first;
+  «data_chunk_size» = e i .size;
+  «width_code» = e i .width;
+  «height_code» = e i .height;
+}
+
+-- an answer of the code is the definition's
+same-opened : (r q : ChunkAnswer) → openedOf r ≡ openedOf q → r ≡ q
+same-opened (Refused o) (Refused u) e = let h : o ≡ u = cc in ap Refused h
+same-opened (Refused o) (Read k) e = absurd (let z : _≡_ {A = ℕ} 0 1 = cc in omega arith)
+same-opened (Read k) (Refused o) e = absurd (let z : _≡_ {A = ℕ} 0 1 = cc in omega arith)
+same-opened (Read k) (Read j) e = let h : chunkOf k ≡ chunkOf j = cc in ap Read (same-chunk k j h)
+
+pub parse-uncompressed-data-chunk : (f : List ℕ) (r q : ChunkAnswer) → openedOf r ≡ chunk f → openedOf q ≡ chunk f → r ≡ q
+parse-uncompressed-data-chunk f r q a b = same-opened r q (a ∙ sym b)
+
+pub parse : (p : Parser) (f : List ℕ) (r q : Parsed) → r ≡ call p f → q ≡ call p f → r ≡ q
+parse p f r q a b = a ∙ sym b
