@@ -1,0 +1,94 @@
+-- What holds at the head of the loop: the frames that are left, from the state so far, end where all of them end. A turn takes the first
+-- of them. Assumes nothing.
+use Prim.Native.Nat.{ℕ, zero, suc, _+_, _-_, _≤_, _<_, min}
+use native.Mathlib.Nat.{add-zero}
+use native.Mathlib.Numerals.{add-one}
+use native.Mathlib.Omega.{arith}
+use mathlib.Core.Path.{_≡_, refl, sym, ap, ap₂, _∙_}
+use mathlib.Core.List.{List, [], _∷_}
+use native.Mathlib.Decide.{decLe}
+use lib.ListN.{length, getD, take, drop, length-drop, drop-of-length-le}
+use lib.Seq.{drop-cons, drop-drop, take-all}
+use Rattle.vp8_records.specs.declared.Outcome.{Outcome}
+use Rattle.vp8_records.specs.declared.Outcome.the-variants.{Accepted, ChunkTooShort, InvalidStartCode, InvalidPartitionSize, EmptyArea, EndOfHeader, FrameTooLong}
+use Rattle.vp8_records.specs.declared.Parser.{Parser}
+use Rattle.vp8_records.specs.declared.Parsed.{Parsed}
+use Rattle.rfc6386.specs.Call.{call, calls, after}
+use Rattle.rfc6386.specs.Fills.{cuts}
+use Rattle.vp8_sequence.specs.Fold.{one, accepted}
+
+pub record Turn (p₀ : Parser) (ns f : List ℕ) (p : Parser) (count at i : ℕ) : Type 0 where
+  pub turns : i ≤ length ns
+  pub within : at ≤ length f
+  pub few : count ≤ i
+  pub state : after p (cuts (drop i ns) (drop at f)) ≡ after p₀ (cuts ns f)
+  pub answers : count + accepted (calls p (cuts (drop i ns) (drop at f))) ≡ accepted (calls p₀ (cuts ns f))
+
+pub begin : (p : Parser) (ns f : List ℕ) → Turn p ns f p 0 0 0
+begin p ns f = record { turns = omega arith; within = omega arith; few = omega arith; state = refl; answers = omega arith }
+
+-- a frame that is cut at the end of the bytes is what they have of it
+frame-is : (f : List ℕ) (at n end : ℕ) → at ≤ length f → end ≡ min (at + n) (length f) → take (end - at) (drop at f) ≡ take n (drop at f)
+frame-is f at n end h e = go (decLe (at + n) (length f))
+  where
+    go : Dec (at + n ≤ length f) → take (end - at) (drop at f) ≡ take n (drop at f)
+    go (yes g) = let same : end - at ≡ n = omega (arith, e, g) in ap (λ (k : ℕ). take k (drop at f)) same
+    go (no g) =
+        take-all (end - at) (drop at f) (omega (arith, e, g, length-drop at f))
+        ∙ sym (take-all n (drop at f) (omega (arith, g, length-drop at f)))
+
+rest-is : (f : List ℕ) (at n end : ℕ) → end ≡ min (at + n) (length f) → drop n (drop at f) ≡ drop end f
+rest-is f at n end e = drop-drop n at f ∙ go (decLe (at + n) (length f))
+  where
+    go : Dec (at + n ≤ length f) → drop (at + n) f ≡ drop end f
+    go (yes g) = let same : at + n ≡ end = omega (arith, e, g) in ap (λ (k : ℕ). drop k f) same
+    go (no g) = drop-of-length-le f {i = at + n} (omega (arith, g)) ∙ sym (drop-of-length-le f {i = end} (omega (arith, e, g)))
+
+pub one-few : (o : Outcome) → one o ≤ 1
+one-few Accepted = omega arith
+one-few ChunkTooShort = omega arith
+one-few (InvalidStartCode code) = omega arith
+one-few (InvalidPartitionSize end length) = omega arith
+one-few EmptyArea = omega arith
+one-few EndOfHeader = omega arith
+one-few (FrameTooLong length) = omega arith
+
+module _ (p : Parser) (ns f : List ℕ) (at i end : ℕ) (r : Parsed) (h : i < length ns) (g : at ≤ length f)
+    (e : end ≡ min (at + getD ns i 0) (length f)) (q : r ≡ call p (take (end - at) (drop at f))) where
+  -- the frames that are left are the next and those after it
+  first-is : cuts (drop i ns) (drop at f) ≡ take (end - at) (drop at f) ∷ cuts (drop (i + 1) ns) (drop end f)
+  unfolding cuts
+  first-is =
+      let n : ℕ = getD ns i 0 in
+      ap (λ (l : List ℕ). cuts l (drop at f)) (drop-cons ns i 0 h ∙ ap (λ (k : ℕ). n ∷ drop k ns) (sym (add-one i)))
+      ∙ ap₂ {C = List (List ℕ)} (λ x xs. x ∷ cuts (drop (i + 1) ns) xs) (sym (frame-is f at n end g e)) (rest-is f at n end e)
+
+  state-next : after p (cuts (drop i ns) (drop at f)) ≡ after (r .parser) (cuts (drop (i + 1) ns) (drop end f))
+  unfolding after
+  state-next =
+      ap (λ (fs : List (List ℕ)). after p fs) first-is
+      ∙ ap (λ (x : Parsed). after (x .parser) (cuts (drop (i + 1) ns) (drop end f))) (sym q)
+
+  answers-next : accepted (calls p (cuts (drop i ns) (drop at f))) ≡ one (r .outcome) + accepted (calls (r .parser) (cuts (drop (i + 1) ns) (drop end f)))
+  unfolding calls accepted
+  answers-next =
+      ap (λ (fs : List (List ℕ)). accepted (calls p fs)) first-is
+      ∙ ap (λ (x : Parsed). one (x .outcome) + accepted (calls (x .parser) (cuts (drop (i + 1) ns) (drop end f)))) (sym q)
+
+pub turn : {p₀ : Parser} {ns f : List ℕ} {p : Parser} {count at i end k : ℕ} {r : Parsed} → Turn p₀ ns f p count at i → i < length ns
+    → end ≡ min (at + getD ns i 0) (length f) → r ≡ call p (take (end - at) (drop at f)) → k ≡ one (r .outcome)
+    → Turn p₀ ns f (r .parser) (count + k) end (i + 1)
+turn {p₀} {ns} {f} {p} {count} {at} {i} {end} {k} {r} t h e q o = record {
+  turns = omega arith;
+  within = omega (arith, e);
+  few = omega (arith, t .few, o, one-few (r .outcome));
+  state = sym (state-next p ns f at i end r h (t .within) e q) ∙ t .state;
+  answers = omega (arith, t .answers, answers-next p ns f at i end r h (t .within) e q, o);
+}
+
+pub ended : {p₀ : Parser} {ns f : List ℕ} {p : Parser} {count at i : ℕ} → Turn p₀ ns f p count at i → length ns ≤ i
+    → (p ≡ after p₀ (cuts ns f)) × (count ≡ accepted (calls p₀ (cuts ns f)))
+unfolding after calls accepted cuts
+ended {p₀} {ns} {f} {p} {count} {at} {i} t h =
+    let none : drop i ns ≡ [] = drop-of-length-le ns h in
+    (rw none at (t .state), omega (arith, rw none at (t .answers)))

@@ -1,0 +1,3 @@
+-- The loop's law, and demand 3 of running code.
+pub mod Folds
+pub mod Kept

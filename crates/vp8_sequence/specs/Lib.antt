@@ -1,0 +1,2 @@
+-- What the contract cites beside the definition.
+pub mod Fold

@@ -1,0 +1,65 @@
+// Many frames over one parser: the fold of calls, so that what is proved of any list of calls holds of running code.
+use vp8_records::Outcome;
+use vp8_records::Parser;
+ghost use mathlib.Core.Path.{_≡_};
+ghost use Prim.Native.Nat.{_+_, _≤_, min};
+ghost use Rattle.rfc6386.specs.Call.{after, calls};
+ghost use Rattle.rfc6386.specs.Fills.{cuts};
+ghost use Rattle.vp8_sequence.specs.Fold.{one, accepted};
+
+// The state after all frames, and how many of them were accepted.
+pub struct Folded {
+    pub parser: Parser,
+    pub accepted: usize,
+}
+
+fn count_one(outcome: Outcome) -> usize
+    ensures { λ r. ⌜ r ≡ one outcome ⌝ }
+{
+    match outcome {
+        Outcome::Accepted => 1,
+        Outcome::ChunkTooShort => 0,
+        Outcome::InvalidStartCode(_) => 0,
+        Outcome::InvalidPartitionSize(_, _) => 0,
+        Outcome::EmptyArea => 0,
+        Outcome::EndOfHeader => 0,
+        Outcome::FrameTooLong(_) => 0,
+    }
+}
+
+// Where a frame of this length ends; a frame that runs past the end of the bytes is cut there.
+fn end_of(size: usize, at: usize, length: u32) -> usize
+    requires { ⌜ at ≤ size ⌝ }
+    ensures { λ r. ⌜ (r ≡ min (at + length) size) × (at ≤ r) ⌝ }
+{
+    let left = size - at;
+    if (length as usize) < left {
+        at + length as usize
+    } else {
+        size
+    }
+}
+
+// The frames stand one after another in `bytes`, with these lengths.
+pub fn parse_frames(parser: Parser, bytes: &[u8], lengths: &[u32]) -> Folded
+    ensures { λ r. ⌜ (r .parser ≡ after parser (cuts (now (lengths .entry)) (now (bytes .entry)))) × (r .accepted ≡ accepted (calls parser (cuts (now (lengths .entry)) (now (bytes .entry))))) ⌝ }
+{
+    let mut state = parser;
+    let mut count: usize = 0;
+    let mut at: usize = 0;
+    let mut i = 0;
+    while i < lengths.len() {
+        let end = end_of(bytes.len(), at, lengths[i]);
+        let answer = vp8_parser::parse(state, &bytes[at..end]);
+        let outcome = answer.outcome;
+        count += count_one(outcome);
+        let next = answer.parser;
+        state = next;
+        at = end;
+        i += 1;
+    }
+    Folded {
+        parser: state,
+        accepted: count,
+    }
+}
