@@ -1,2 +1,3 @@
--- The cases' one statement.
+-- The cases' one statement, and the wrong parsers shut out.
 pub mod Cases
+pub mod Wrong

@@ -2,9 +2,8 @@
 -- frame that cuts off the past, else its starting value; and no other parser record meets that. By the contract and `last-writer`.
 -- Assumes nothing.
 use Prim.Native.Nat.{ℕ}
-use mathlib.Core.Path.{_≡_, sym, ap, _∙_}
-use mathlib.Core.List.{List, _∷_, _++_, map}
-use lib.IntN.{ℤ}
+use mathlib.Core.Path.{_≡_, ap, _∙_}
+use mathlib.Core.List.{List, map}
 use Rattle.vp8_records.specs.declared.Parser.{Parser}
 use Rattle.vp8_records.specs.Start.{fresh}
 use Rattle.rfc6386.specs.Call.{after}

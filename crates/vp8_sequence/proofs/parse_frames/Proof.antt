@@ -6,11 +6,6 @@ use borrow.Author.Needs.{needs}
 use Rattle.vp8_sequence.proofs.Folds.{Turn, begin, turn, ended, one-few}
 use Rattle.vp8_sequence.proofs.parse_frames.Statement.{statement}
 use Rattle.vp8_sequence.proofs.parse_frames.Tie as tie
-use Rattle.vp8_sequence.proofs.parse_frames.Reads as reads
-use Rattle.vp8_sequence.proofs.parse_frames.Lts as lts
-use Rattle.vp8_parser.proofs.parse.Reads as parse-reads
-use Rattle.vp8_sequence.proofs.count_one.Reads as count-one-reads
-use Rattle.vp8_sequence.proofs.end_of.Reads as end-of-reads
 
 abbrev Inv-loop : tie.InvT-loop
 Inv-loop bytes lengths state₀ count₀ at₀ i₀ state count at i = Turn state₀ lengths bytes state count at i
@@ -18,59 +13,45 @@ Inv-loop bytes lengths state₀ count₀ at₀ i₀ state count at i = Turn stat
 abbrev μ-loop : tie.MeasureT-loop
 μ-loop bytes lengths state₀ count₀ at₀ i₀ state count at i = length lengths - i
 
--- src/lib.rt:51:5
 loop-holds : tie.Need-loop-holds Inv-loop μ-loop
 loop-holds c = begin _ _ _
 
--- src/lib.rt:52:43
 mul-end-of : tie.Need-mul-end-of Inv-loop μ-loop
 mul-end-of c = search needs
 
--- src/lib.rt:52:43
 shared-slice-read-end-of : tie.Need-shared-slice-read-end-of Inv-loop μ-loop
 shared-slice-read-end-of c = search needs
 
--- src/lib.rt:52:13
 end-of-requires : tie.Need-end-of-requires Inv-loop μ-loop
 end-of-requires c κs = search needs
 
--- src/lib.rt:53:47
 sub-parse : tie.Need-sub-parse Inv-loop μ-loop
 sub-parse c = search needs
 
--- src/lib.rt:53:47
 part-parse-start : tie.Need-part-parse-start Inv-loop μ-loop
 part-parse-start c = search needs
 
--- src/lib.rt:53:47
 part-parse-end : tie.Need-part-parse-end Inv-loop μ-loop
 part-parse-end c = search needs
 
--- src/lib.rt:53:13
 parse-requires : tie.Need-parse-requires Inv-loop μ-loop
 parse-requires c κs = search needs
 
--- src/lib.rt:55:18
 count-one-requires : tie.Need-count-one-requires Inv-loop μ-loop
 count-one-requires c κs = search needs
 
--- src/lib.rt:55:9
 add-count : tie.Need-add-count Inv-loop μ-loop
 add-count c = record { fits = omega (arith, c .before .before .before .before .before .before .loop .inv .few, c .count-one .ensures, one-few (c .before .parse .result .outcome)) }
 
--- src/lib.rt:59:9
 add-i : tie.Need-add-i Inv-loop μ-loop
 add-i c = search needs
 
--- src/lib.rt:51:5
 loop-less : tie.Need-loop-less Inv-loop μ-loop
 loop-less c = search needs
 
--- src/lib.rt:51:5
 loop-again : tie.Need-loop-again Inv-loop μ-loop
 loop-again c = turn (c .before .before .before .before .before .before .before .loop .inv) (c .before .before .before .before .before .before .loop-test .taken) (c .before .before .before .before .end-of .ensures .0) (c .before .before .parse .ensures) (c .before .count-one .ensures)
 
--- src/lib.rt:44:1
 returns : tie.Need-returns Inv-loop μ-loop
 returns c = ended (c .before .loop .inv) (c .loop-test .left)
 

@@ -1,0 +1,102 @@
+-- None of the five wrong parsers meets the contract of `parse`: document 01's cases 6, 7 and 11, computed, tell each apart. Assumes nothing.
+use Prim.Native.Nat.{ℕ}
+use native.Mathlib.Omega.{arith}
+use mathlib.Core.Path.{_≡_, refl, sym, ap, _∙_}
+use mathlib.Core.Bool.{Bool, true, false}
+use mathlib.Core.List.{List, [], _∷_, _++_}
+use Rattle.vp8_probs.specs.Tables.{coeffUpdate, mvUpdate}
+use Rattle.vp8_records.specs.declared.Header.{Header}
+use Rattle.vp8_records.specs.declared.Outcome.{Outcome}
+use Rattle.vp8_records.specs.declared.Outcome.the-variants.{Accepted}
+use Rattle.vp8_records.specs.declared.Parsed.{Parsed}
+use Rattle.vp8_records.specs.declared.Parser.{Parser}
+use Rattle.vp8_records.specs.Start.{fresh}
+use Rattle.rfc6386.specs.Decoder.{number, start, double, normal, chosen, readBool, whole, countOf, position}
+use Rattle.rfc6386.specs.Reads.{_>>=_, run, bool, flag, when, litFrom, lit, sint, make, times, each, maybe, orElse}
+use Rattle.rfc6386.specs.Coded.{anew, features, segments, deltas, quant, refresh, coefficients, motion, modes, inter, header}
+use Rattle.rfc6386.specs.Frame.{keyChunk, chunk, snapshot, codedSizes, sum, sizes, headed, body, decode}
+use Rattle.rfc6386.specs.Call.{segmented, apply, headerOf, call}
+use Rattle.rfc6386_cases.specs.Cases.{key176x144}
+use Rattle.rfc6386_cases.specs.Wrong.{Function, Meets, RefusesAll, FixedHeader, Untouched, Repeats, Invents}
+
+abbrev six : List ℕ
+six = key176x144 0x30 ++ (0x00 ∷ 0x00 ∷ [])
+
+abbrev seven : List ℕ
+seven = 0x31 ∷ 0x00 ∷ 0x00 ∷ 0x00 ∷ 0x00 ∷ []
+
+abbrev eleven : List ℕ
+eleven = key176x144 0x70 ++ (0x30 ∷ 0x80 ∷ 0x00 ∷ 0x00 ∷ [])
+
+-- what tells them apart: accepted, the number of bools, a key frame, segmentation enabled after the call
+record Told : Type 0 where
+  outcome : Outcome
+  bools : ℕ
+  key : Bool
+  enabled : Bool
+
+abbrev told : Parsed → Told
+told r = record {
+  outcome = r .outcome;
+  bools = r .header .bools;
+  key = r .header .«key_frame»;
+  enabled = r .parser .segmentation .«segmentation_enabled»;
+}
+
+six-is : told (call fresh six) ≡ record { outcome = Accepted; bools = 1086; key = true; enabled = false }
+unfolding coeffUpdate number start double normal chosen readBool whole countOf position _>>=_ run bool flag when litFrom lit sint make times each maybe orElse anew features segments deltas quant refresh coefficients inter header keyChunk chunk snapshot codedSizes sum sizes headed body decode segmented apply headerOf call
+six-is = refl
+
+-- over any parser, whose state is not looked at
+seven-is : (p : Parser) → (call p seven .outcome ≡ Accepted) × (call p seven .header .bools ≡ 1157) × (call p seven .header .«key_frame» ≡ false)
+unfolding coeffUpdate mvUpdate number start double normal chosen readBool whole countOf position _>>=_ run bool flag when litFrom lit sint make times each maybe orElse anew features segments deltas quant refresh coefficients motion modes inter header chunk snapshot codedSizes sum sizes headed body decode headerOf call
+seven-is p = (refl, refl, refl)
+
+eleven-is : call fresh eleven .parser .segmentation .«segmentation_enabled» ≡ true
+unfolding coeffUpdate number start double normal chosen readBool whole countOf position _>>=_ run bool flag when litFrom lit sint make times each maybe orElse anew features segments deltas quant refresh coefficients inter header keyChunk chunk snapshot codedSizes sum sizes headed body decode segmented apply call
+eleven-is = refl
+
+fresh-is : fresh .segmentation .«segmentation_enabled» ≡ false
+unfolding fresh
+fresh-is = refl
+
+apart : (b : Bool) → b ≡ true → b ≡ false → ⊥
+apart b p q = let z : _≡_ {A = ℕ} 0 1 = cc in omega arith
+
+module _ (g : Function) (meets : Meets g) where
+  six-outcome : g fresh six .outcome ≡ Accepted
+  six-outcome = ap (λ (r : Parsed). r .outcome) (meets fresh six) ∙ ap (λ (t : Told). t .outcome) six-is
+
+  seven-outcome : g fresh seven .outcome ≡ Accepted
+  seven-outcome = ap (λ (r : Parsed). r .outcome) (meets fresh seven) ∙ seven-is fresh .0
+
+  six-key : g fresh six .header .«key_frame» ≡ true
+  six-key = ap (λ (r : Parsed). r .header .«key_frame») (meets fresh six) ∙ ap (λ (t : Told). t .key) six-is
+
+  seven-key : (p : Parser) → g p seven .header .«key_frame» ≡ false
+  seven-key p = ap (λ (r : Parsed). r .header .«key_frame») (meets p seven) ∙ seven-is p .2
+
+  pub not-refuses-all : RefusesAll g → ⊥
+  not-refuses-all h = h fresh six six-outcome
+
+  pub not-fixed-header : (x : Header) → FixedHeader x g → ⊥
+  not-fixed-header x h =
+      apart (x .«key_frame») (ap (λ (y : Header). y .«key_frame») (sym (h fresh six six-outcome)) ∙ six-key)
+      (ap (λ (y : Header). y .«key_frame») (sym (h fresh seven seven-outcome)) ∙ seven-key fresh)
+
+  pub not-untouched : Untouched g → ⊥
+  not-untouched h =
+      apart (g fresh eleven .parser .segmentation .«segmentation_enabled»)
+      (ap (λ (r : Parsed). r .parser .segmentation .«segmentation_enabled») (meets fresh eleven) ∙ eleven-is)
+      (ap (λ (p : Parser). p .segmentation .«segmentation_enabled») (h fresh eleven) ∙ fresh-is)
+
+  pub not-repeats : Repeats g → ⊥
+  not-repeats h =
+      apart (g fresh six .header .«key_frame») six-key
+      (ap (λ (y : Header). y .«key_frame») (sym (h six seven)) ∙ seven-key (g fresh six .parser))
+
+  pub not-invents : (n : ℕ) → Invents n g → ⊥
+  not-invents n h =
+      let a : g fresh six .header .bools ≡ 1086 = ap (λ (r : Parsed). r .header .bools) (meets fresh six) ∙ ap (λ (t : Told). t .bools) six-is in
+      let b : g fresh seven .header .bools ≡ 1157 = ap (λ (r : Parsed). r .header .bools) (meets fresh seven) ∙ seven-is fresh .1 in
+      omega (arith, a, b, h fresh six six-outcome, h fresh seven seven-outcome)

@@ -1,0 +1,37 @@
+-- Five wrong parsers (document 01, "How tight the contracts are"), as functions from a record and a frame to an answer.
+use Prim.Native.Nat.{ℕ}
+use mathlib.Core.Path.{_≡_}
+use mathlib.Core.List.{List}
+use Rattle.vp8_records.specs.declared.Header.{Header}
+use Rattle.vp8_records.specs.declared.Outcome.the-variants.{Accepted}
+use Rattle.vp8_records.specs.declared.Parsed.{Parsed}
+use Rattle.vp8_records.specs.declared.Parser.{Parser}
+use Rattle.vp8_records.specs.Start.{fresh}
+use Rattle.rfc6386.specs.Call.{call}
+
+abbrev pub Function : Type 0
+Function = Parser → List ℕ → Parsed
+
+-- it meets the contract of `parse`
+abbrev pub Meets : Function → Type 0
+Meets g = (p : Parser) (f : List ℕ) → g p f ≡ call p f
+
+-- 1: it refuses every frame
+abbrev pub RefusesAll : Function → Type 0
+RefusesAll g = (p : Parser) (f : List ℕ) → g p f .outcome ≡ Accepted → ⊥
+
+-- 2: every accepted frame has this header
+abbrev pub FixedHeader : Header → Function → Type 0
+FixedHeader h g = (p : Parser) (f : List ℕ) → g p f .outcome ≡ Accepted → g p f .header ≡ h
+
+-- 3: it hands the record back untouched
+abbrev pub Untouched : Function → Type 0
+Untouched g = (p : Parser) (f : List ℕ) → g p f .parser ≡ p
+
+-- 4: over one parser, a second call answers as the first did
+abbrev pub Repeats : Function → Type 0
+Repeats g = (f f′ : List ℕ) → g (g fresh f .parser) f′ .header ≡ g fresh f .header
+
+-- 5: its count of bools is made up: the same for every accepted frame
+abbrev pub Invents : ℕ → Function → Type 0
+Invents n g = (p : Parser) (f : List ℕ) → g p f .outcome ≡ Accepted → g p f .header .bools ≡ n
