@@ -1,5 +1,7 @@
 // A script of reads over an area, run on the bare decoder: each read is a kind (0 bool, 1 literal, 2 signed literal) and a probability
 // or a width. The line tells what each read gave and where it left the decoder, and at its end what the decoder shows.
+pub mod input;
+
 use bool_decoder::BoolAnswer;
 use bool_decoder::BoolDecoder;
 use bool_decoder::SintAnswer;

@@ -4,7 +4,7 @@
 ghost use mathlib.Core.Path.{_≡_};
 ghost use mathlib.Core.List.{[]};
 ghost use Prim.Native.Nat.{_<_, _≤_, _+_, _*_};
-ghost use lib.ListN.{getD};
+ghost use lib.ListN.{getD, take as List·take};
 ghost use lib.IntN.{natAbs};
 ghost use Rattle.io.specs.Counts.{Counts};
 ghost use Rattle.io.specs.Digits.{glyph as Digits·glyph};
@@ -86,13 +86,16 @@ pub fn signed(out: &mut [u8], at: usize, z: i32) -> usize
     decimal(out, at, n)
 }
 
-// The first n bytes of `out`, or all of it, to standard output; false where not all could be written.
+// The text itself; all of `out` where n is more.
+pub fn part(out: &[u8], n: usize) -> &[u8]
+    ensures { λ r. ⌜ now r ≡ List·take n (now (out .entry)) ⌝ }
+{
+    if n < out.len() { &out[..n] } else { out }
+}
+
+// The text to standard output; false where not all could be written.
 pub fn show(out: &[u8], n: usize) -> bool {
-    if n < out.len() {
-        io::write_all(libc::STDOUT_FILENO, &out[..n])
-    } else {
-        io::write_all(libc::STDOUT_FILENO, out)
-    }
+    io::write_all(libc::STDOUT_FILENO, part(out, n))
 }
 
 // A line of its own.
