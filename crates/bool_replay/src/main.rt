@@ -33,7 +33,7 @@ fn wrong(tally: Tally, word: &[u8]) -> Tally {
     ended(tally)
 }
 
-// These words, and a number after them.
+// A number between two words.
 fn tell(words: &[u8], n: u64, after: &[u8]) {
     let mut out = [0u8; 64];
     let at = lines::bytes(&mut out, 0, words);

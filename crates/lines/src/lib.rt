@@ -1,6 +1,6 @@
 // Text in a buffer that the caller lends, and whole numbers and runs of bytes from standard input: what the programs share.
 // A text is the first `at` bytes of `out`. Each writer puts its bytes there, as far as the buffer goes, and answers the new count.
-// No function has a premise.
+// No public function has a premise.
 ghost use mathlib.Core.Path.{_≡_};
 ghost use mathlib.Core.List.{[]};
 ghost use Prim.Native.Nat.{_<_, _≤_, _+_, _*_};
