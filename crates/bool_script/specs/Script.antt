@@ -1,5 +1,5 @@
 -- What one read of a script gives: the bare decoder's answer, in one type for the three kinds. Assumes nothing.
-use Prim.Native.Nat.{ℕ}
+use Prim.Native.Nat.{ℕ, _+_}
 use mathlib.Core.Path.{_≡_}
 use mathlib.Core.Bool.{Bool, true, false, cond}
 use mathlib.Core.List.{List, [], _∷_}
@@ -8,7 +8,6 @@ use Rattle.bool_decoder.specs.declared.BoolDecoder.{BoolDecoder}
 use Rattle.bool_decoder.specs.Answer.{Allows, Refuses}
 use Rattle.bool_decoder.specs.Window.{Over}
 use Rattle.rfc6386.specs.Reads.{bool, lit, sint}
-use Prim.Native.Nat.{_+_}
 use Rattle.bool_script.specs.declared.Value.{Value}
 use Rattle.bool_script.specs.declared.Value.the-variants.{Bit, Plain, Signed, Refused}
 

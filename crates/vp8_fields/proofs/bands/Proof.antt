@@ -6,11 +6,10 @@ use lib.ListN.{length}
 use borrow.Author.Needs.{needs}
 use Rattle.vp8_records.specs.Shape.{Every, SizedTokens, SizedContexts}
 use Rattle.vp8_records.proofs.Parts as Parts
-use Rattle.bool_decoder.proofs.Each.{Turn, begin, turn, end}
+use Rattle.bool_decoder.proofs.Each.{Turn, begin, turn, end, length-mapped}
 use Rattle.vp8_fields.proofs.Loops.{room}
 use Rattle.vp8_probs.specs.Tables.{coeffUpdate}
 use Rattle.vp8_records.specs.Layout.{flatContexts, laidContexts}
-use Rattle.bool_decoder.proofs.Each.{length-mapped}
 use Rattle.vp8_fields.specs.Parts.{coded, part}
 use Rattle.vp8_fields.proofs.InPlace.{level}
 use Rattle.vp8_fields.proofs.Made.{same, makes}

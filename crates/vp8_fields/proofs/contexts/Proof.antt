@@ -5,16 +5,14 @@ use mathlib.Core.Path.{_≡_}
 use lib.ListN.{length}
 use borrow.Author.Needs.{needs}
 use Rattle.vp8_records.specs.Shape.{Every, SizedTokens}
-use Rattle.bool_decoder.proofs.Each.{Turn, begin, turn, end}
+use Rattle.bool_decoder.proofs.Each.{Turn, begin, turn, end, length-mapped}
 use Rattle.vp8_fields.proofs.Loops.{room}
 use Rattle.vp8_probs.specs.Tables.{coeffUpdate}
 use Rattle.vp8_records.specs.Layout.{flatTokens, laidTokens}
-use Rattle.bool_decoder.proofs.Each.{length-mapped}
 use Rattle.vp8_fields.specs.Parts.{coded, part}
 use Rattle.vp8_fields.proofs.InPlace.{level}
 use Rattle.vp8_fields.proofs.Made.{same, makes}
 use Rattle.vp8_fields.proofs.Shapes.{tokens-own, every-of}
-use Rattle.vp8_fields.proofs.Shapes.{every-of}
 use Rattle.vp8_fields.proofs.contexts.Statement.{statement}
 use Rattle.vp8_fields.proofs.contexts.Tie as tie
 

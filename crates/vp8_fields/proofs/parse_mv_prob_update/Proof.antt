@@ -5,11 +5,10 @@ use mathlib.Core.Path.{_≡_, refl}
 use lib.ListN.{length}
 use borrow.Author.Needs.{needs}
 use Rattle.vp8_records.specs.Shape.{Every, SizedMvContext}
-use Rattle.bool_decoder.proofs.Each.{Turn, begin, turn, end}
+use Rattle.bool_decoder.proofs.Each.{Turn, begin, turn, end, length-mapped}
 use Rattle.vp8_fields.proofs.Loops.{room}
 use Rattle.vp8_probs.specs.Tables.{mvUpdate}
 use Rattle.vp8_records.specs.Layout.{flatMvContext, laidMvContext}
-use Rattle.bool_decoder.proofs.Each.{length-mapped}
 use Rattle.vp8_fields.specs.Parts.{codedMv, part}
 use Rattle.vp8_fields.proofs.InPlace.{level}
 use Rattle.vp8_fields.proofs.Made.{same, makes}

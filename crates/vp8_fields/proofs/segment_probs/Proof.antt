@@ -1,7 +1,7 @@
 -- The loop over three numbers: `Each`, and the definition's reads by `loop-times`. Assumes nothing.
 use Prim.Native.Nat.{_-_}
 use native.Mathlib.Omega.{arith}
-use mathlib.Core.Path.{_≡_}
+use mathlib.Core.Path.{_≡_, refl}
 use lib.ListN.{length}
 use borrow.Author.Needs.{needs}
 use Rattle.bool_decoder.proofs.Each.{Turn, begin, turn, end}
@@ -11,7 +11,6 @@ use Rattle.rfc6386.specs.Reads.{make}
 use Rattle.rfc6386.specs.Runs.{or}
 use Rattle.vp8_fields.specs.Parts.{coded}
 use Rattle.vp8_fields.proofs.InPlace.{loop-times}
-use mathlib.Core.Path.{refl}
 use Rattle.vp8_fields.proofs.segment_probs.Statement.{statement}
 use Rattle.vp8_fields.proofs.segment_probs.Tie as tie
 

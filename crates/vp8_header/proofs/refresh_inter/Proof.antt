@@ -5,7 +5,6 @@ use Rattle.rfc6386.specs.Coded.{refresh}
 use Rattle.bool_decoder.proofs.Chain.{then, done}
 use Rattle.vp8_fields.proofs.Made.{makes}
 use Rattle.vp8_header.specs.Stages.{refreshOf}
-use Rattle.bool_decoder.proofs.Chain.{then, done}
 use Rattle.vp8_header.proofs.refresh_inter.Statement.{statement}
 use Rattle.vp8_header.proofs.refresh_inter.Tie as tie
 

@@ -13,7 +13,6 @@ use Rattle.vp8_parser.specs.declared.Listed.{Listed}
 use Rattle.vp8_parser.specs.Answers.{padded, sizesOf}
 use Rattle.vp8_parser.proofs.Frames.{sizes-unread, sizes-beyond, sizes-are}
 use Rattle.vp8_parser.proofs.Partitions.{padded-more}
-use Rattle.rfc6386.specs.Frame.{codedSizes, sum, sizes}
 use Rattle.vp8_parser.proofs.compute_partition_sizes.Statement.{statement}
 use Rattle.vp8_parser.proofs.compute_partition_sizes.Tie as tie
 

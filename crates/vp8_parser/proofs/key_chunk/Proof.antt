@@ -2,10 +2,8 @@
 use native.Mathlib.Omega.{arith}
 use mathlib.Core.Path.{ap, _∙_}
 use borrow.Author.Needs.{needs}
-use Rattle.rfc6386.specs.Frame.{opened}
-use Rattle.vp8_parser.proofs.Opens.{key-short, key-other, key-cut, key-whole}
 use Rattle.rfc6386.specs.Frame.{opened, tagged}
-use Rattle.rfc6386.specs.Frame.{opened}
+use Rattle.vp8_parser.proofs.Opens.{key-short, key-other, key-cut, key-whole}
 use Rattle.vp8_parser.proofs.key_chunk.Statement.{statement}
 use Rattle.vp8_parser.proofs.key_chunk.Tie as tie
 

@@ -1,16 +1,18 @@
 -- The header and the sizes are the definition's; the answer goes by the sizes. Assumes nothing.
 use Prim.Native.Nat.{ℕ, _^_}
-use mathlib.Core.Path.{_≡_, _∙_}
+use mathlib.Core.Path.{_≡_, ap, _∙_}
 use mathlib.Core.Option.{Option}
 use mathlib.Core.List.{List}
 use denote.Ref.{now}
 use borrow.Author.Needs.{needs}
+use Rattle.vp8_records.specs.declared.Outcome.the-variants.{EndOfHeader}
+use Rattle.vp8_records.specs.Start.{blank}
 use Rattle.rfc6386.specs.Frame.{sizes}
-use Rattle.rfc6386.specs.Call.{headerOf}
+use Rattle.rfc6386.specs.Call.{headerOf, answer}
+use Rattle.vp8_header.specs.declared.Headed.{Headed}
 use Rattle.vp8_header.specs.Headed.{chunkOf, headedOf}
 use Rattle.vp8_parser.specs.Answers.{sizesOf, sizedOf}
 use Rattle.vp8_parser.proofs.Frames.{few, found, missing}
-use Rattle.vp8_header.specs.Headed.{headedOf}
 use Rattle.vp8_parser.proofs.parse_area.Statement.{statement}
 use Rattle.vp8_parser.proofs.parse_area.Tie as tie
 
@@ -44,7 +46,7 @@ returns-2 c =
     let q : Option (List ℕ) = sizes (2 ^ headedOf (chunkOf (a .chunk)) (now (a .area)) (a .parser) .header .«log2_nbr_of_dct_partitions») (now (a .area)) (a .chunk .«first_part_size») in
     let r : c .before .before .compute-partition-sizes .result ≡ sizesOf q = rw h at (c .before .before .compute-partition-sizes .ensures) in
     let x = missing q (c .before .before .compute-partition-sizes .result) r (c .before .if1 .left) in
-    c .refused .ensures ∙ rw (h, x)
+    c .refused .ensures ∙ ap (λ (y : Headed). answer EndOfHeader blank (y .parser)) h ∙ rw x
 
 pub parse-area-spec : {M : Type 1} → statement M
 parse-area-spec =

@@ -5,7 +5,6 @@ use mathlib.Core.Bool.{false}
 use borrow.Author.Needs.{needs}
 use Rattle.rfc6386.specs.Frame.{opened, tagged}
 use Rattle.vp8_parser.proofs.Opens.{chunk-long, chunk-short, chunk-key, chunk-inter}
-use Rattle.rfc6386.specs.Frame.{opened}
 use Rattle.vp8_parser.proofs.parse_uncompressed_data_chunk.Statement.{statement}
 use Rattle.vp8_parser.proofs.parse_uncompressed_data_chunk.Tie as tie
 
