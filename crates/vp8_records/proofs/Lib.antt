@@ -2,3 +2,4 @@
 pub mod Copy
 pub mod Places
 pub mod Parts
+pub mod Totals
