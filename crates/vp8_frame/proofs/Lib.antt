@@ -1,0 +1,3 @@
+-- Theorems about the lent call.
+pub mod Same
+pub mod Lengths
