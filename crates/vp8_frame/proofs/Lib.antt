@@ -1,3 +1,4 @@
--- Theorems about the lent call.
+-- Theorems about the lent call, and what its walks share.
 pub mod Same
 pub mod Lengths
+pub mod Values

@@ -66,6 +66,7 @@ use Rattle.vp8_frame.proofs.part_of as part
 use Rattle.vp8_frame.proofs.part_of.Symbol as part-def
 use Rattle.vp8_frame.proofs.part_of.Symbol.{name as #part}
 use Rattle.vp8_frame.proofs.part_of.Met as part-thm
+use Rattle.vp8_frame.proofs.Values.{mval, oval, hval, field-0, field-1, field-2, parser-is, outcome-is, header-is, value-is}
 use Rattle.vp8_parser.proofs.parse as parse
 use Rattle.vp8_parser.proofs.parse.Symbol as parse-def
 use Rattle.vp8_parser.proofs.parse.Symbol.{name as #parse}
@@ -88,50 +89,6 @@ Parse 𝓤 H A mem run = tripleOf 𝓤 H A parse.signature (parse.spec 𝓤 H A 
 abbrev Part : {M : Type 1} (𝓤 : URA M) (H : Heap 𝓤) (A : Atoms 𝓤) (mem : Memory → SProp 𝓤) (run : Routine → Fun 𝓤) → Contract 𝓤
 Part 𝓤 H A mem run = tripleOf 𝓤 H A part.signature (part.spec 𝓤 H A mem run)
 
--- the machine value of a record
-abbrev mach : Parser → Val
-mach d = LL.val T.the-type T′.the-laws d
-
--- what whoever holds the answer knows of its fields
--- the machine values of the answer's parts. They stay shut in the walk, which has no need to look into them
-mval : Parser → Val
-mval d = LL.val T.the-type T′.the-laws d
-
-oval : Outcome → Val
-oval o = EL.val O.the-type O′.the-laws o
-
-hval : Header → Val
-hval d = LL.val Hd.the-type Hd′.the-laws d
-
-abbrev pval : Parsed → Val
-pval r = vstruct (vcons (oval (r .outcome)) (vcons (hval (r .header)) (vcons (mval (r .parser)) vnil)))
-
--- where the fields of the answer lie
-field-0 : fieldOf P′.mir 0 ≡ some′ (O′.mir, 0)
-field-0 = refl
-
-field-1 : fieldOf P′.mir 1 ≡ some′ (Hd′.mir, 24)
-field-1 = refl
-
-field-2 : fieldOf P′.mir 2 ≡ some′ (T′.mir, 1212)
-field-2 = refl
-
-made : (r : Parsed) (u : Val) → Is P.the-row r (u ∷ []) → Is R (r .parser) (mval (r .parser) ∷ [])
-unfolding mval
-made r u is = LL.owed P.the-type P′.the-laws r _ is .1 .1 .0
-
-outcome-is : (r : Parsed) (u : Val) → Is P.the-row r (u ∷ []) → Is O.the-row (r .outcome) (oval (r .outcome) ∷ [])
-unfolding oval
-outcome-is r u is = LL.owed P.the-type P′.the-laws r _ is .0
-
-header-is : (r : Parsed) (u : Val) → Is P.the-row r (u ∷ []) → Is Hd.the-row (r .header) (hval (r .header) ∷ [])
-unfolding hval
-header-is r u is = LL.owed P.the-type P′.the-laws r _ is .1 .0
-
-pval-is : (r : Parsed) (u : Val) → Is P.the-row r (u ∷ []) → u ≡ pval r
-unfolding mval oval hval
-pval-is r u is = ap only (LL.tells P.the-type P′.the-laws r (u ∷ []) is)
-
 module _ {M : Type 1} (𝓤 : URA M) (H : Heap 𝓤) (A : Atoms 𝓤) (W : Given 𝓤 H A) (at-mem : Memory → SProp 𝓤) (run : Routine → Fun 𝓤) (κ κ′ : Lft) (q q′ : Share) (b o : ℕ) (γ : GName) (h : Parser) (s : RefT (List ℕ)) where
   abbrev Arg : Type 0
   Arg = RefT Parser × (RefT (List ℕ) × Unit {0})
@@ -145,6 +102,10 @@ module _ {M : Type 1} (𝓤 : URA M) (H : Heap 𝓤) (A : Atoms 𝓤) (W : Given
   abbrev vals : List Val × (List Val × Unit {0})
   vals = (vptr b o ∷ [], (v ∷ [], tt))
 
+  -- the machine value of the record
+  abbrev mach : Val
+  mach = LL.val T.the-type T′.the-laws h
+
   abbrev found : Parsed
   found = call h (now s)
 
@@ -156,7 +117,7 @@ module _ {M : Type 1} (𝓤 : URA M) (H : Heap 𝓤) (A : Atoms 𝓤) (W : Given
 
   -- what the callee is passed
   abbrev passed : Vals parse.signature (κ′, tt)
-  passed = (mach h ∷ [], (v ∷ [], tt))
+  passed = (mach ∷ [], (v ∷ [], tt))
 
   abbrev to : Parse 𝓤 H A at-mem run .Ghost
   to = (((κ′, tt), (q′, tt), tt, (h, (s, tt)), passed), tt)
@@ -165,7 +126,7 @@ module _ {M : Type 1} (𝓤 : URA M) (H : Heap 𝓤) (A : Atoms 𝓤) (W : Given
   asked = qed W ((‵ (flft κ′ q′) ⊛ ‵ ftrue) ∷ ‵ (owns (R ∷ ShrSlice (named 0) κ′ u8 ∷ []) (h, (s, tt)) passed) ∷ []) ∵ join ! $ frame ! $ done !
 
   -- the token and the slice give what the callee asks, and the slice is kept
-  gives : Is R h (mach h ∷ []) → ent 𝓤 (⋆ 𝓤 H A ((‵ (flft κ′ q′) ⊛ ‵ ftrue) ∷ ‵ (owns (ShrSlice (named 1) κ′ u8 ∷ []) (s, tt) (v ∷ [], tt)) ∷ [])) (sep 𝓤 (Parse 𝓤 H A at-mem run .pre to) (sem 𝓤 H A Own))
+  gives : Is R h (mach ∷ []) → ent 𝓤 (⋆ 𝓤 H A ((‵ (flft κ′ q′) ⊛ ‵ ftrue) ∷ ‵ (owns (ShrSlice (named 1) κ′ u8 ∷ []) (s, tt) (v ∷ [], tt)) ∷ [])) (sep 𝓤 (Parse 𝓤 H A at-mem run .pre to) (sem 𝓤 H A Own))
   gives g =
       qed W ((‵ (flft κ′ q′) ⊛ ‵ ftrue) ∷ ‵ (owns (ShrSlice (named 1) κ′ u8 ∷ []) (s, tt) (v ∷ [], tt)) ∷ []) ∵
       move ! (1 ∷ []) $ fsplit ! $ use1 W (‵ Own ⊛ ‵ Own) (shr-slice-copy 𝓤 H A W (named 1) κ′ u8 .twice s (v ∷ [])) $ split ! $
@@ -236,7 +197,7 @@ module _ {M : Type 1} (𝓤 : URA M) (H : Heap 𝓤) (A : Atoms 𝓤) (W : Given
         -- the borrow is opened
         move ! (13 ∷ []) $ fsplit ! $ fsplit3 ! $ drop ! $ move ! (15 ∷ []) $ split ! $ move ! (2 ∷ 3 ∷ 0 ∷ []) $
         opens ! tt R {h = h} b o (λ vs. spelt ! R (Is R) (shows 𝓤 H A R) (LL.vals T.the-type T′.the-laws) (LL.tells T.the-type T′.the-laws) fullShare h vs b o $
-        move ! (1 ∷ []) $ peeks ! R (Is R) (shows 𝓤 H A R) h (mach h ∷ []) (λ g. drop ! $
+        move ! (1 ∷ []) $ peeks ! R (Is R) (shows 𝓤 H A R) h (mach ∷ []) (λ g. drop ! $
         -- [the record's cell; the open borrow; obs; auth; the second token; what bytes owns; _5; …; _4; …; _3; …; _2; …; _1; …; room for _0; …]
         assigns ! (of-opd ! (load ! (from ! (hop ! (look ! 14 refl) (stop !))) (look-raw ! 0 refl))) (from ! (stop !)) (init ! 6 refl (LL.lawful T.the-type T′.the-laws 𝓤 H A W .typed h _ g .0)) $
         move ! (4 ∷ 5 ∷ []) $ use2 W (raw (Parse 𝓤 H A at-mem run .pre to) ⊛ ‵ Own) (gives g) $ split ! $
@@ -246,10 +207,10 @@ module _ {M : Type 1} (𝓤 : URA M) (H : Heap 𝓤) (A : Atoms 𝓤) (W : Given
         peeks ! P.the-row (Is P.the-row) (shows 𝓤 H A P.the-row) r (u ∷ []) (λ is. drop ! $
         -- [the second token; what bytes owns; the record's cell; the open borrow; obs; auth; _5; …; _4; …; room for _3; …; _2; …; _1; …; room for _0; …]
         land ! (from ! (stop !)) (init ! 10 refl (LL.lawful P.the-type P′.the-laws 𝓤 H A W .typed r _ is .0)) $
-        rewrite ! 10 (λ (w : Val). ‵ (fat fullShare P′.mir l₃ 0 w)) (pval-is r u is) refl $
+        rewrite ! 10 (λ (w : Val). ‵ (fat fullShare P′.mir l₃ 0 w)) (value-is r u is) refl $
         -- the new record is stored, and the borrow is closed
-        assigns ! (of-opd ! (load ! (from ! (fld ! field-2 (stop !))) (look-in ! 10 (sub ! 2 field-2 (whole !))))) (from ! (hop ! (look ! 14 refl) (stop !))) (store-raw ! 2 refl (LL.lawful T.the-type T′.the-laws 𝓤 H A W .typed (r .parser) _ (made r u is) .0)) $
-        owned ! R (Is R) (LL.makes T.the-type T′.the-plain 𝓤 H A) (r .parser) _ (made r u is) $ move ! (3 ∷ 0 ∷ 4 ∷ 5 ∷ 6 ∷ []) $ closes ! tt R (r .parser) (mval (r .parser) ∷ []) b o $
+        assigns ! (of-opd ! (load ! (from ! (fld ! field-2 (stop !))) (look-in ! 10 (sub ! 2 field-2 (whole !))))) (from ! (hop ! (look ! 14 refl) (stop !))) (store-raw ! 2 refl (LL.lawful T.the-type T′.the-laws 𝓤 H A W .typed (r .parser) _ (parser-is r u is) .0)) $
+        owned ! R (Is R) (LL.makes T.the-type T′.the-plain 𝓤 H A) (r .parser) _ (parser-is r u is) $ move ! (3 ∷ 0 ∷ 4 ∷ 5 ∷ 6 ∷ []) $ closes ! tt R (r .parser) (mval (r .parser) ∷ []) b o $
         -- [obs; the borrow; the token; the second token; what bytes owns; _5; …; _4; …; _3; …; _2; …; _1; …; _0; …]
         move ! (3 ∷ 4 ∷ []) $ use2 W (raw (Part 𝓤 H A at-mem run .pre (to2 (r .outcome))) ⊛ ‵ Own) (gives2 (r .outcome) (outcome-is r u is)) $ split ! $
         calls-at ! fm (Part 𝓤 H A at-mem run) known2 (to2 (r .outcome)) (and-then ! (load ! (from ! (stop !)) (look ! 11 refl)) (and-then ! (load ! (from ! (fld ! field-0 (stop !))) (look-in ! 9 (sub ! 0 field-0 (whole !)))) (no-more !))) (λ w.
