@@ -1,15 +1,14 @@
 -- The length of an accepted frame by its header is the frame's own: its parts fill it, they are at most 8, and it is short enough that
 -- nothing wraps. Assumes nothing.
-use Prim.Native.Nat.{ℕ, _+_, _%_, _^_, _<_}
+use Prim.Native.Nat.{ℕ, _%_, _^_, _<_}
 use native.Mathlib.Nat.{mod-eq-of-lt}
 use native.Mathlib.Omega.{arith}
 use mathlib.Core.Path.{_≡_, refl, ap, sym, _∙_}
 use mathlib.Core.Bool.{Bool, true, false}
-use mathlib.Core.List.{List, [], _∷_, _++_, map}
+use mathlib.Core.List.{List, [], _∷_, map}
 use lib.Dec.{leb, ltb, eqb}
 use lib.ListN.{length, drop, length-append}
 use borrow.Author.Tests.{leb-false}
-use Rattle.vp8_records.specs.declared.Header.{Header}
 use Rattle.vp8_records.specs.declared.Parser.{Parser}
 use Rattle.vp8_records.specs.declared.Parsed.{Parsed}
 use Rattle.vp8_records.specs.declared.Outcome.the-variants.{Accepted, ChunkTooShort, FrameTooLong}
@@ -17,9 +16,9 @@ use Rattle.vp8_records.specs.Layout.{joined}
 use Rattle.vp8_records.specs.Length.{total, partitionsOf, lengthOf}
 use Rattle.rfc6386.specs.Bytes.{le3}
 use Rattle.rfc6386.specs.Decoder.{bits, start}
-use Rattle.rfc6386.specs.Frame.{Chunk, Opened, shut, opened, tagged, keyChunk, chunk}
+use Rattle.rfc6386.specs.Frame.{Chunk, shut, opened, tagged, keyChunk, chunk}
 use Rattle.rfc6386.specs.Call.{headerOf, call}
-use Rattle.rfc6386.specs.Fills.{lengths, cuts, partitions}
+use Rattle.rfc6386.specs.Fills.{lengths, partitions}
 use Rattle.rfc6386.proofs.Accepts.{accepted}
 use Rattle.rfc6386.proofs.Fills.{few-parts, accepted-fills}
 

@@ -14,7 +14,7 @@ pub struct Frame<'a> {
 
 // The part that an answer refers to.
 fn part_of<'a>(bytes: &'a [u8], outcome: Outcome) -> &'a [u8]
-    ensures { λ r. ⌜ now r ≡ viewed outcome (now (bytes .entry)) ⌝ }
+    ensures { λ r. ⌜ (now r ≡ viewed outcome (now (bytes .entry))) × (r .ptr ≡ bytes .entry .ptr) ⌝ }
 {
     match outcome {
         Outcome::Accepted => bytes,

@@ -3,3 +3,4 @@ pub mod Copy
 pub mod Places
 pub mod Parts
 pub mod Totals
+pub mod Lends

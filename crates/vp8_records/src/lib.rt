@@ -368,6 +368,20 @@ impl Parser {
             mode_probs,
         }
     }
+
+    // The kept segmentation, as a reference into the parser.
+    pub fn segmentation(&self) -> &Segmentation
+        ensures { λ r. ⌜ now r ≡ now (self .entry) .segmentation ⌝ }
+    {
+        &self.segmentation
+    }
+
+    // The kept filter adjustments, likewise.
+    pub fn mb_lf_adjust(&self) -> &MbLfAdjustments
+        ensures { λ r. ⌜ now r ≡ now (self .entry) .«mb_lf_adjust» ⌝ }
+    {
+        &self.mb_lf_adjust
+    }
 }
 
 // A number of 32 bits in 64: of an element that a call takes, the bound is known.
