@@ -12,7 +12,7 @@ pub struct Frame<'a> {
     pub bitstream: &'a [u8],
 }
 
-// The part that an answer refers to.
+// The part that an answer refers to: it begins where the frame does.
 fn part_of<'a>(bytes: &'a [u8], outcome: Outcome) -> &'a [u8]
     ensures { λ r. ⌜ (now r ≡ viewed outcome (now (bytes .entry))) × (r .ptr ≡ bytes .entry .ptr) ⌝ }
 {
@@ -29,7 +29,8 @@ fn part_of<'a>(bytes: &'a [u8], outcome: Outcome) -> &'a [u8]
 
 // One call over a lent parser, which holds the new state when it returns, also where the frame is refused.
 pub fn parse_frame<'s, 'a>(parser: &'s mut Parser, bytes: &'a [u8]) -> Frame<'a>
-    ensures { λ r. ⌜ Framed (now (parser .entry)) (now (bytes .entry)) (r .outcome) (r .header) (now (r .bitstream)) (now (parser .exit)) ⌝ }
+    ensures { λ r. ⌜ Framed (now (parser .entry)) (now (bytes .entry)) (r .outcome) (r .header) (now (r .bitstream)) (now (parser .exit))
+        × (r .bitstream .ptr ≡ bytes .entry .ptr) ⌝ }
 {
     let parsed = vp8_parser::parse(*parser, bytes);
     *parser = parsed.parser;

@@ -164,8 +164,12 @@ module _ {M : Type 1} (𝓤 : URA M) (H : Heap 𝓤) (A : Atoms 𝓤) (W : Given
       nothing ! $ owned ! O.the-row (Is O.the-row) (EL.makes O.the-type O′.the-plain 𝓤 H A) n _ fits $ fjoin ! $ move ! (1 ∷ 0 ∷ []) $ fjoin ! $
       move ! (2 ∷ 0 ∷ []) $ use2 W (raw (Part 𝓤 H A at-mem run .pre (to2 n))) (asked2 n) $ frame ! $ done !
 
-  said2 : (n : Outcome) (t : RefT (List ℕ)) → ent 𝓤 (ensured 𝓤 H A part.ended (part.clauses 𝓤 H A at-mem run) (κ′, tt) (s, (n, tt)) tt t) (fact 𝓤 (now t ≡ viewed n (now s)))
-  said2 n t = exE 𝓤 _ (λ ws. snd∗ 𝓤 (sem 𝓤 H A (lasts part.ended (κ′, tt) (s, (n, tt)) ws)) (fact 𝓤 (now t ≡ viewed n (now s))))
+  -- what `part_of` says of the part t, at the outcome n
+  abbrev Refers : Outcome → RefT (List ℕ) → Type 0
+  Refers n t = (now t ≡ viewed n (now s)) × (t .ptr ≡ s .ptr)
+
+  said2 : (n : Outcome) (t : RefT (List ℕ)) → ent 𝓤 (ensured 𝓤 H A part.ended (part.clauses 𝓤 H A at-mem run) (κ′, tt) (s, (n, tt)) tt t) (fact 𝓤 (Refers n t))
+  said2 n t = exE 𝓤 _ (λ ws. snd∗ 𝓤 (sem 𝓤 H A (lasts part.ended (κ′, tt) (s, (n, tt)) ws)) (fact 𝓤 (Refers n t)))
 
   part-is : (t : RefT (List ℕ)) (w : Val) → Is (ShrSlice (named 0) κ′ u8) t (w ∷ []) → Is (ShrSlice (named 1) κ′ u8) t (vof t ∷ [])
   part-is t w is = subst (λ (x : List Val). Is (ShrSlice (named 1) κ′ u8) t x) (shr-slice-tells (named 0) κ′ u8 t (w ∷ []) is) is
@@ -175,13 +179,13 @@ module _ {M : Type 1} (𝓤 : URA M) (H : Heap 𝓤) (A : Atoms 𝓤) (W : Given
   unfolding hval oval
   frame-is r u is t p = LL.owes (F.the-type α) (F′.the-laws α) (frm r t) (outcome-is r u is, (header-is r u is, (p, tt)))
 
-  exits : (r : Parsed) (u : Val) → Is P.the-row r (u ∷ []) → (t : RefT (List ℕ)) → r ≡ found → now t ≡ viewed (r .outcome) (now s)
+  exits : (r : Parsed) (u : Val) → Is P.the-row r (u ∷ []) → (t : RefT (List ℕ)) → r ≡ found → Refers (r .outcome) t
       → ent 𝓤 (⋆ 𝓤 H A (‵ (ShrSlice (named 0) κ′ u8 .own t (vof t ∷ [])) ∷ (‵ (flft κ′ q′) ⊛ ‵ ftrue) ∷ ‵ Own ∷ ‵ (fobs γ (R .coded .code (r .parser))) ∷ ‵ (fbor κ (Body (mem R) b o γ)) ∷ ‵ (flft κ q) ∷ [])) (Post (fval (frm r t)))
   unfolding hval oval
   exits r u is t e e2 =
       qed W (‵ (ShrSlice (named 0) κ′ u8 .own t (vof t ∷ [])) ∷ (‵ (flft κ′ q′) ⊛ ‵ ftrue) ∷ ‵ Own ∷ ‵ (fobs γ (R .coded .code (r .parser))) ∷ ‵ (fbor κ (Body (mem R) b o γ)) ∷ ‵ (flft κ q) ∷ []) ∵
       suffices ! _ (ends-at 𝓤 H A frame′.ended stayed (frame′.clauses 𝓤 H A at-mem run) W (((κ, (κ′, tt)), (q, (q′, tt)), tt, a, vals), tt) (fval (frm r t)) (frm r t) (r .parser, (tt, tt)) (tt, (tt, tt))) $
-      says ! (record { says = ap (λ (x : Parsed). x .outcome) e; reads = ap (λ (x : Parsed). x .header) e; refers = e2 ∙ ap (λ (x : Parsed). viewed (x .outcome) (now s)) e; leaves = ap (λ (x : Parsed). x .parser) e }) $
+      says ! (record { says = ap (λ (x : Parsed). x .outcome) e; reads = ap (λ (x : Parsed). x .header) e; refers = e2 .0 ∙ ap (λ (x : Parsed). viewed (x .outcome) (now s)) e; leaves = ap (λ (x : Parsed). x .parser) e }, e2 .1) $
       move ! (5 ∷ 1 ∷ []) $ join ! $ frame ! $ move ! (2 ∷ 3 ∷ []) $ feqI ! (List Val) (vptr b o ∷ []) (vptr b o ∷ []) refl $ fjoin3 ! $
       nothing ! $ move ! (3 ∷ 0 ∷ []) $ fjoin ! $ move ! (1 ∷ 0 ∷ []) $ fjoin ! $ frame ! $
       nothing ! $ move ! (1 ∷ 0 ∷ []) $ fjoin ! $ owned ! Hd.the-row (Is Hd.the-row) (LL.makes Hd.the-type Hd′.the-plain 𝓤 H A) (r .header) _ (header-is r u is) $ fjoin ! $ owned ! O.the-row (Is O.the-row) (EL.makes O.the-type O′.the-plain 𝓤 H A) (r .outcome) _ (outcome-is r u is) $ fjoin ! $ by ! (own-shut 𝓤 H A W (F.the-type α) (F′.the-laws α) (r .outcome, (r .header, (t, tt))))
@@ -212,7 +216,7 @@ module _ {M : Type 1} (𝓤 : URA M) (H : Heap 𝓤) (A : Atoms 𝓤) (W : Given
         move ! (3 ∷ 4 ∷ []) $ use2 W (raw (Part 𝓤 H A at-mem run .pre (to2 (r .outcome))) ⊛ ‵ Own) (gives2 (r .outcome) (outcome-is r u is)) $ split ! $
         calls-at ! fm (Part 𝓤 H A at-mem run) known2 (to2 (r .outcome)) (and-then ! (load ! (from ! (stop !)) (look ! 11 refl)) (and-then ! (load ! (from ! (fld ! field-0 (stop !))) (look-in ! 9 (sub ! 0 field-0 (whole !)))) (no-more !))) (λ w.
         use1 W (later (some (λ (t : RefT (List ℕ)). ((‵ (flft κ′ q′) ⊛ ‵ ftrue) ⊛ ‵ (ShrSlice (named 0) κ′ u8 .own t (w ∷ []))) ⊛ raw (ensured 𝓤 H A part.ended (part.clauses 𝓤 H A at-mem run) (κ′, tt) (s, (r .outcome, tt)) tt t)))) (id⊢ 𝓤 _) $ await ! tt $ pick ! (λ t.
-        split ! $ move ! (1 ∷ []) $ use1 W (raw (fact 𝓤 (now t ≡ viewed (r .outcome) (now s)))) (said2 (r .outcome) t) $ heard ! (now t ≡ viewed (r .outcome) (now s)) (λ e2. split ! $ move ! (1 ∷ []) $
+        split ! $ move ! (1 ∷ []) $ use1 W (raw (fact 𝓤 (Refers (r .outcome) t))) (said2 (r .outcome) t) $ heard ! (Refers (r .outcome) t) (λ e2. split ! $ move ! (1 ∷ []) $
         -- [what the part owns; the second token; what bytes owns; obs; the borrow; the token; _5; …; _4; …; _3; …; _2; …; _1; …; _0; …]
         peeks ! (ShrSlice (named 0) κ′ u8) (Is (ShrSlice (named 0) κ′ u8)) (shows 𝓤 H A (ShrSlice (named 0) κ′ u8)) t (w ∷ []) (λ is2.
         rewrite ! 0 (λ (x : Val). ‵ (ShrSlice (named 0) κ′ u8 .own t (x ∷ []))) (ap only (shr-slice-tells (named 0) κ′ u8 t (w ∷ []) is2)) refl $
