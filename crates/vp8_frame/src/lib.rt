@@ -44,8 +44,8 @@ pub fn parse_frame<'s, 'a>(parser: &'s mut Parser, bytes: &'a [u8]) -> Frame<'a>
 
 impl<'a> Frame<'a> {
     // The bytes of the frame.
-    pub fn as_ref(self) -> &'a [u8]
-        ensures { λ r. ⌜ r ≡ self .entry .bitstream ⌝ }
+    pub fn as_ref(&self) -> &'a [u8]
+        ensures { λ r. ⌜ r ≡ now (self .entry) .bitstream ⌝ }
     {
         self.bitstream
     }
