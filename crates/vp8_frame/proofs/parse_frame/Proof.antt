@@ -33,6 +33,7 @@ use denote.Slice.{sliceVal, slice-vals, ShrSlice, shr-slice-copy, shr-slice-lawf
 use denote.Steps.{only, opens, closes, owned, peeks, heard, nothing}
 use denote.Struct.Steps.{spelt}
 use denote.Struct.Laws as LL
+use denote.Enum.Laws as EL
 use denote.Struct.Rest.{own-shut}
 use denote.Triple.Statement.{Contract, Triple}
 use denote.Triple.Call.{calls-at}
@@ -55,7 +56,6 @@ use Rattle.vp8_records.proofs.Header.Laws as Hd′
 use Rattle.vp8_records.specs.declared.Outcome.{Outcome}
 use Rattle.vp8_records.proofs.Outcome as O
 use Rattle.vp8_records.proofs.Outcome.Laws as O′
-use denote.Enum.Laws as EL
 use Rattle.vp8_frame.specs.declared.Frame.{Frame}
 use Rattle.vp8_frame.proofs.Frame as F
 use Rattle.vp8_frame.proofs.Frame.Laws as F′
@@ -79,7 +79,7 @@ R = T.the-row
 abbrev stayed : Stays (frame′.ended .signature .params) (frame′.ended .kept)
 stayed = (stay-ref (0 ∷ []) tt (plain (λ _. R)), (stay-none-slice (1 ∷ []) tt (plain (λ _. u8)) yes, tt))
 
--- the contract that the proof cites
+-- the contracts that the walk cites
 abbrev Parse : {M : Type 1} (𝓤 : URA M) (H : Heap 𝓤) (A : Atoms 𝓤) (mem : Memory → SProp 𝓤) (run : Routine → Fun 𝓤) → Contract 𝓤
 Parse 𝓤 H A mem run = tripleOf 𝓤 H A parse.signature (parse.spec 𝓤 H A mem run)
 
@@ -148,28 +148,28 @@ module _ {M : Type 1} (𝓤 : URA M) (H : Heap 𝓤) (A : Atoms 𝓤) (W : Given
   fval f = vstruct (vcons (oval (f .outcome)) (vcons (hval (f .header)) (vcons (vof (f .bitstream)) vnil)))
 
   -- the call of `part_of`
-  abbrev passed2 : Outcome → Vals part.signature (κ′, tt)
-  passed2 n = (v ∷ [], (oval n ∷ [], tt))
+  abbrev passed′ : Outcome → Vals part.signature (κ′, tt)
+  passed′ n = (v ∷ [], (oval n ∷ [], tt))
 
-  abbrev to2 : Outcome → Part 𝓤 H A at-mem run .Ghost
-  to2 n = (((κ′, tt), (q′, tt), tt, (s, (n, tt)), passed2 n), tt)
+  abbrev to′ : Outcome → Part 𝓤 H A at-mem run .Ghost
+  to′ n = (((κ′, tt), (q′, tt), tt, (s, (n, tt)), passed′ n), tt)
 
-  asked2 : (n : Outcome) → ent 𝓤 (onEntry 𝓤 H A part.signature (κ′, tt) (q′, tt) (s, (n, tt)) (passed2 n)) (Part 𝓤 H A at-mem run .pre (to2 n))
-  asked2 n = qed W ((‵ (flft κ′ q′) ⊛ ‵ ftrue) ∷ ‵ (owns (ShrSlice (named 0) κ′ u8 ∷ O.the-row ∷ []) (s, (n, tt)) (passed2 n)) ∷ []) ∵ join ! $ frame ! $ done !
+  asked′ : (n : Outcome) → ent 𝓤 (onEntry 𝓤 H A part.signature (κ′, tt) (q′, tt) (s, (n, tt)) (passed′ n)) (Part 𝓤 H A at-mem run .pre (to′ n))
+  asked′ n = qed W ((‵ (flft κ′ q′) ⊛ ‵ ftrue) ∷ ‵ (owns (ShrSlice (named 0) κ′ u8 ∷ O.the-row ∷ []) (s, (n, tt)) (passed′ n)) ∷ []) ∵ join ! $ frame ! $ done !
 
-  gives2 : (n : Outcome) → Is O.the-row n (oval n ∷ []) → ent 𝓤 (⋆ 𝓤 H A ((‵ (flft κ′ q′) ⊛ ‵ ftrue) ∷ ‵ Own ∷ [])) (sep 𝓤 (Part 𝓤 H A at-mem run .pre (to2 n)) (sem 𝓤 H A Own))
-  gives2 n fits =
+  gives′ : (n : Outcome) → Is O.the-row n (oval n ∷ []) → ent 𝓤 (⋆ 𝓤 H A ((‵ (flft κ′ q′) ⊛ ‵ ftrue) ∷ ‵ Own ∷ [])) (sep 𝓤 (Part 𝓤 H A at-mem run .pre (to′ n)) (sem 𝓤 H A Own))
+  gives′ n fits =
       qed W ((‵ (flft κ′ q′) ⊛ ‵ ftrue) ∷ ‵ Own ∷ []) ∵
       move ! (1 ∷ []) $ use1 W (‵ Own ⊛ ‵ Own) (shr-slice-copy 𝓤 H A W (named 1) κ′ u8 .twice s (v ∷ [])) $ split ! $
       nothing ! $ owned ! O.the-row (Is O.the-row) (EL.makes O.the-type O′.the-plain 𝓤 H A) n _ fits $ fjoin ! $ move ! (1 ∷ 0 ∷ []) $ fjoin ! $
-      move ! (2 ∷ 0 ∷ []) $ use2 W (raw (Part 𝓤 H A at-mem run .pre (to2 n))) (asked2 n) $ frame ! $ done !
+      move ! (2 ∷ 0 ∷ []) $ use2 W (raw (Part 𝓤 H A at-mem run .pre (to′ n))) (asked′ n) $ frame ! $ done !
 
   -- what `part_of` says of the part t, at the outcome n
   abbrev Refers : Outcome → RefT (List ℕ) → Type 0
   Refers n t = (now t ≡ viewed n (now s)) × (t .ptr ≡ s .ptr)
 
-  said2 : (n : Outcome) (t : RefT (List ℕ)) → ent 𝓤 (ensured 𝓤 H A part.ended (part.clauses 𝓤 H A at-mem run) (κ′, tt) (s, (n, tt)) tt t) (fact 𝓤 (Refers n t))
-  said2 n t = exE 𝓤 _ (λ ws. snd∗ 𝓤 (sem 𝓤 H A (lasts part.ended (κ′, tt) (s, (n, tt)) ws)) (fact 𝓤 (Refers n t)))
+  said′ : (n : Outcome) (t : RefT (List ℕ)) → ent 𝓤 (ensured 𝓤 H A part.ended (part.clauses 𝓤 H A at-mem run) (κ′, tt) (s, (n, tt)) tt t) (fact 𝓤 (Refers n t))
+  said′ n t = exE 𝓤 _ (λ ws. snd∗ 𝓤 (sem 𝓤 H A (lasts part.ended (κ′, tt) (s, (n, tt)) ws)) (fact 𝓤 (Refers n t)))
 
   part-is : (t : RefT (List ℕ)) (w : Val) → Is (ShrSlice (named 0) κ′ u8) t (w ∷ []) → Is (ShrSlice (named 1) κ′ u8) t (vof t ∷ [])
   part-is t w is = subst (λ (x : List Val). Is (ShrSlice (named 1) κ′ u8) t x) (shr-slice-tells (named 0) κ′ u8 t (w ∷ []) is) is
@@ -182,15 +182,15 @@ module _ {M : Type 1} (𝓤 : URA M) (H : Heap 𝓤) (A : Atoms 𝓤) (W : Given
   exits : (r : Parsed) (u : Val) → Is P.the-row r (u ∷ []) → (t : RefT (List ℕ)) → r ≡ found → Refers (r .outcome) t
       → ent 𝓤 (⋆ 𝓤 H A (‵ (ShrSlice (named 0) κ′ u8 .own t (vof t ∷ [])) ∷ (‵ (flft κ′ q′) ⊛ ‵ ftrue) ∷ ‵ Own ∷ ‵ (fobs γ (R .coded .code (r .parser))) ∷ ‵ (fbor κ (Body (mem R) b o γ)) ∷ ‵ (flft κ q) ∷ [])) (Post (fval (frm r t)))
   unfolding hval oval
-  exits r u is t e e2 =
+  exits r u is t e e′ =
       qed W (‵ (ShrSlice (named 0) κ′ u8 .own t (vof t ∷ [])) ∷ (‵ (flft κ′ q′) ⊛ ‵ ftrue) ∷ ‵ Own ∷ ‵ (fobs γ (R .coded .code (r .parser))) ∷ ‵ (fbor κ (Body (mem R) b o γ)) ∷ ‵ (flft κ q) ∷ []) ∵
       suffices ! _ (ends-at 𝓤 H A frame′.ended stayed (frame′.clauses 𝓤 H A at-mem run) W (((κ, (κ′, tt)), (q, (q′, tt)), tt, a, vals), tt) (fval (frm r t)) (frm r t) (r .parser, (tt, tt)) (tt, (tt, tt))) $
-      says ! (record { says = ap (λ (x : Parsed). x .outcome) e; reads = ap (λ (x : Parsed). x .header) e; refers = e2 .0 ∙ ap (λ (x : Parsed). viewed (x .outcome) (now s)) e; leaves = ap (λ (x : Parsed). x .parser) e }, e2 .1) $
+      says ! (record { says = ap (λ (x : Parsed). x .outcome) e; reads = ap (λ (x : Parsed). x .header) e; refers = e′ .0 ∙ ap (λ (x : Parsed). viewed (x .outcome) (now s)) e; leaves = ap (λ (x : Parsed). x .parser) e }, e′ .1) $
       move ! (5 ∷ 1 ∷ []) $ join ! $ frame ! $ move ! (2 ∷ 3 ∷ []) $ feqI ! (List Val) (vptr b o ∷ []) (vptr b o ∷ []) refl $ fjoin3 ! $
       nothing ! $ move ! (3 ∷ 0 ∷ []) $ fjoin ! $ move ! (1 ∷ 0 ∷ []) $ fjoin ! $ frame ! $
       nothing ! $ move ! (1 ∷ 0 ∷ []) $ fjoin ! $ owned ! Hd.the-row (Is Hd.the-row) (LL.makes Hd.the-type Hd′.the-plain 𝓤 H A) (r .header) _ (header-is r u is) $ fjoin ! $ owned ! O.the-row (Is O.the-row) (EL.makes O.the-type O′.the-plain 𝓤 H A) (r .outcome) _ (outcome-is r u is) $ fjoin ! $ by ! (own-shut 𝓤 H A W (F.the-type α) (F′.the-laws α) (r .outcome, (r .header, (t, tt))))
 
-  module _ (C : Calls 𝓤 H) (Λ : Loops 𝓤 H) (fm : FmC 𝓤 H (W .laws) C) (known : Triple 𝓤 (C #parse) (Parse 𝓤 H A at-mem run)) (known2 : Triple 𝓤 (C #part) (Part 𝓤 H A at-mem run)) where
+  module _ (C : Calls 𝓤 H) (Λ : Loops 𝓤 H) (fm : FmC 𝓤 H (W .laws) C) (known : Triple 𝓤 (C #parse) (Parse 𝓤 H A at-mem run)) (known′ : Triple 𝓤 (C #part) (Part 𝓤 H A at-mem run)) where
     walk : Is (ShrSlice (named 1) κ′ u8) s (v ∷ []) → ent 𝓤 (onEntry 𝓤 H A frame′.signature (κ, (κ′, tt)) (q, (q′, tt)) a vals) (WpFn 𝓤 H C Λ code.function (vptr b o ∷ v ∷ []) Post)
     walk p =
         qed W ((‵ (flft κ q) ⊛ ‵ (flft κ′ q′) ⊛ ‵ ftrue) ∷ ‵ (owns (MutRef (named 0) κ R ∷ ShrSlice (named 1) κ′ u8 ∷ []) a vals) ∷ []) ∵ enter ! C Λ code.function (vptr b o ∷ v ∷ []) _ $
@@ -213,30 +213,30 @@ module _ {M : Type 1} (𝓤 : URA M) (H : Heap 𝓤) (A : Atoms 𝓤) (W : Given
         assigns ! (of-opd ! (load ! (from ! (fld ! field-2 (stop !))) (look-in ! 10 (sub ! 2 field-2 (whole !))))) (from ! (hop ! (look ! 14 refl) (stop !))) (store-raw ! 2 refl (LL.lawful T.the-type T′.the-laws 𝓤 H A W .typed (r .parser) _ (parser-is r u is) .0)) $
         owned ! R (Is R) (LL.makes T.the-type T′.the-plain 𝓤 H A) (r .parser) _ (parser-is r u is) $ move ! (3 ∷ 0 ∷ 4 ∷ 5 ∷ 6 ∷ []) $ closes ! tt R (r .parser) (mval (r .parser) ∷ []) b o $
         -- [obs; the borrow; the token; the second token; what bytes owns; _5; …; _4; …; _3; …; _2; …; _1; …; _0; …]
-        move ! (3 ∷ 4 ∷ []) $ use2 W (raw (Part 𝓤 H A at-mem run .pre (to2 (r .outcome))) ⊛ ‵ Own) (gives2 (r .outcome) (outcome-is r u is)) $ split ! $
-        calls-at ! fm (Part 𝓤 H A at-mem run) known2 (to2 (r .outcome)) (and-then ! (load ! (from ! (stop !)) (look ! 11 refl)) (and-then ! (load ! (from ! (fld ! field-0 (stop !))) (look-in ! 9 (sub ! 0 field-0 (whole !)))) (no-more !))) (λ w.
+        move ! (3 ∷ 4 ∷ []) $ use2 W (raw (Part 𝓤 H A at-mem run .pre (to′ (r .outcome))) ⊛ ‵ Own) (gives′ (r .outcome) (outcome-is r u is)) $ split ! $
+        calls-at ! fm (Part 𝓤 H A at-mem run) known′ (to′ (r .outcome)) (and-then ! (load ! (from ! (stop !)) (look ! 11 refl)) (and-then ! (load ! (from ! (fld ! field-0 (stop !))) (look-in ! 9 (sub ! 0 field-0 (whole !)))) (no-more !))) (λ w.
         use1 W (later (some (λ (t : RefT (List ℕ)). ((‵ (flft κ′ q′) ⊛ ‵ ftrue) ⊛ ‵ (ShrSlice (named 0) κ′ u8 .own t (w ∷ []))) ⊛ raw (ensured 𝓤 H A part.ended (part.clauses 𝓤 H A at-mem run) (κ′, tt) (s, (r .outcome, tt)) tt t)))) (id⊢ 𝓤 _) $ await ! tt $ pick ! (λ t.
-        split ! $ move ! (1 ∷ []) $ use1 W (raw (fact 𝓤 (Refers (r .outcome) t))) (said2 (r .outcome) t) $ heard ! (Refers (r .outcome) t) (λ e2. split ! $ move ! (1 ∷ []) $
+        split ! $ move ! (1 ∷ []) $ use1 W (raw (fact 𝓤 (Refers (r .outcome) t))) (said′ (r .outcome) t) $ heard ! (Refers (r .outcome) t) (λ e′. split ! $ move ! (1 ∷ []) $
         -- [what the part owns; the second token; what bytes owns; obs; the borrow; the token; _5; …; _4; …; _3; …; _2; …; _1; …; _0; …]
-        peeks ! (ShrSlice (named 0) κ′ u8) (Is (ShrSlice (named 0) κ′ u8)) (shows 𝓤 H A (ShrSlice (named 0) κ′ u8)) t (w ∷ []) (λ is2.
-        rewrite ! 0 (λ (x : Val). ‵ (ShrSlice (named 0) κ′ u8 .own t (x ∷ []))) (ap only (shr-slice-tells (named 0) κ′ u8 t (w ∷ []) is2)) refl $
-        land ! (from ! (stop !)) (init ! 8 refl (shr-slice-lawful 𝓤 H A W erased κ′ u8 .typed t (w ∷ []) is2 .0)) $
-        rewrite ! 8 (λ (x : Val). ‵ (fat fullShare (tyStruct (38 ∷ 91 ∷ 93 ∷ []) (tcons (tyRef erased imm (tyInt w8)) (tcons (tyInt w64) tnil))) l₄ 0 x)) (ap only (shr-slice-tells (named 0) κ′ u8 t (w ∷ []) is2)) refl $
-        assigns ! (agg ! (and-then ! (load ! (from ! (fld ! field-0 (stop !))) (look-in ! 10 (sub ! 0 field-0 (whole !)))) (and-then ! (load ! (from ! (fld ! field-1 (stop !))) (look-in ! 10 (sub ! 1 field-1 (whole !)))) (and-then ! (load ! (from ! (stop !)) (look ! 8 refl)) (no-more !))))) (from ! (stop !)) (init ! 16 refl (LL.lawful (F.the-type α) (F′.the-laws α) 𝓤 H A W .typed (frm r t) _ (frame-is r u is t (part-is t w is2)) .0)) $
+        peeks ! (ShrSlice (named 0) κ′ u8) (Is (ShrSlice (named 0) κ′ u8)) (shows 𝓤 H A (ShrSlice (named 0) κ′ u8)) t (w ∷ []) (λ is′.
+        rewrite ! 0 (λ (x : Val). ‵ (ShrSlice (named 0) κ′ u8 .own t (x ∷ []))) (ap only (shr-slice-tells (named 0) κ′ u8 t (w ∷ []) is′)) refl $
+        land ! (from ! (stop !)) (init ! 8 refl (shr-slice-lawful 𝓤 H A W erased κ′ u8 .typed t (w ∷ []) is′ .0)) $
+        rewrite ! 8 (λ (x : Val). ‵ (fat fullShare (tyStruct (38 ∷ 91 ∷ 93 ∷ []) (tcons (tyRef erased imm (tyInt w8)) (tcons (tyInt w64) tnil))) l₄ 0 x)) (ap only (shr-slice-tells (named 0) κ′ u8 t (w ∷ []) is′)) refl $
+        assigns ! (agg ! (and-then ! (load ! (from ! (fld ! field-0 (stop !))) (look-in ! 10 (sub ! 0 field-0 (whole !)))) (and-then ! (load ! (from ! (fld ! field-1 (stop !))) (look-in ! 10 (sub ! 1 field-1 (whole !)))) (and-then ! (load ! (from ! (stop !)) (look ! 8 refl)) (no-more !))))) (from ! (stop !)) (init ! 16 refl (LL.lawful (F.the-type α) (F′.the-laws α) 𝓤 H A W .typed (frm r t) _ (frame-is r u is t (part-is t w is′)) .0)) $
         returns ! (look ! 16 refl) $ forget ! 6 refl $ forget ! 8 refl $ forget ! 10 refl $ forget ! 12 refl $ forget ! 14 refl $ forget ! 16 refl $
         move ! (16 ∷ 17 ∷ []) $ free1 ! $ move ! (14 ∷ 15 ∷ []) $ free1 ! $ move ! (12 ∷ 13 ∷ []) $ free1 ! $ move ! (10 ∷ 11 ∷ []) $ free1 ! $ move ! (8 ∷ 9 ∷ []) $ free1 ! $ move ! (6 ∷ 7 ∷ []) $ free1 ! $ free0 ! $
-        by ! (exits r u is t e e2)))))))))))))))))
+        by ! (exits r u is t e e′)))))))))))))))))
 
 module _ {M : Type 1} (𝓤 : URA M) (H : Heap 𝓤) (A : Atoms 𝓤) (W : Given 𝓤 H A) (mem : Memory → SProp 𝓤) (run : Routine → Fun 𝓤) where
   frame-walks : (C : Calls 𝓤 H) (Λ : Loops 𝓤 H) → FmC 𝓤 H (W .laws) C → Triple 𝓤 (C #parse) (Parse 𝓤 H A mem run) → Triple 𝓤 (C #part) (Part 𝓤 H A mem run) → Walks 𝓤 H A frame′.ended stayed (WpFn 𝓤 H C Λ code.function) (frame′.clauses 𝓤 H A mem run)
-  frame-walks C Λ fm known known2 = walked 𝓤 H A frame′.ended stayed (frame′.clauses 𝓤 H A mem run) (WpFn 𝓤 H C Λ code.function) (λ κs. (ptr-vals, (slice-vals, tt))) (λ κs. (mut-tells (named 0) (κs .0) R, (shr-slice-tells (named 1) (κs .1 .0) u8, tt)))
-      (λ κs qs bounds a g are. via 𝓤 _ (fst∗ 𝓤 _ (emp 𝓤)) (walk 𝓤 H A W mem run (κs .0) (κs .1 .0) (qs .0) (qs .1 .0) (a .0 .ptr .0) (a .0 .ptr .1) (a .0 .name) (a .0 .now) (a .1 .0) C Λ fm known known2 (are .1 .0)))
+  frame-walks C Λ fm known known′ = walked 𝓤 H A frame′.ended stayed (frame′.clauses 𝓤 H A mem run) (WpFn 𝓤 H C Λ code.function) (λ κs. (ptr-vals, (slice-vals, tt))) (λ κs. (mut-tells (named 0) (κs .0) R, (shr-slice-tells (named 1) (κs .1 .0) u8, tt)))
+      (λ κs qs bounds a g are. via 𝓤 _ (fst∗ 𝓤 _ (emp 𝓤)) (walk 𝓤 H A W mem run (κs .0) (κs .1 .0) (qs .0) (qs .1 .0) (a .0 .ptr .0) (a .0 .ptr .1) (a .0 .name) (a .0 .now) (a .1 .0) C Λ fm known known′ (are .1 .0)))
 
 frame-meets : {M : Type 1} (𝓤 : URA M) (H : Heap 𝓤) (A : Atoms 𝓤) → Given 𝓤 H A → (mem : Memory → SProp 𝓤) (run : Routine → Fun 𝓤) (𝓣 : Tables 𝓤 H) → Triple 𝓤 (𝓣 .C #parse) (Parse 𝓤 H A mem run) → Triple 𝓤 (𝓣 .C #part) (Part 𝓤 H A mem run)
     → Meets 𝓤 H A frame′.signature (WpFn 𝓤 H (𝓣 .C) (𝓣 .Λ) code.function) (frame′.spec 𝓤 H A mem run)
-frame-meets 𝓤 H A W mem run 𝓣 known known2 =
+frame-meets 𝓤 H A W mem run 𝓣 known known′ =
     walk-meets 𝓤 H A frame′.ended stayed W (goes-ref 𝓤 H A W 2 0 tt (plain (λ _. R)), (goes-none-slice 𝓤 H A W 2 (1 ∷ []) tt (plain (λ _. u8)) yes, tt)) (frame′.clauses 𝓤 H A mem run)
-    (WpFn 𝓤 H (𝓣 .C) (𝓣 .Λ) code.function) (WpFn-mono 𝓤 H (W .laws) 𝓣 code.function) (frame-walks 𝓤 H A W mem run (𝓣 .C) (𝓣 .Λ) (fmOf 𝓤 H (W .laws) 𝓣) known known2)
+    (WpFn 𝓤 H (𝓣 .C) (𝓣 .Λ) code.function) (WpFn-mono 𝓤 H (W .laws) 𝓣 code.function) (frame-walks 𝓤 H A W mem run (𝓣 .C) (𝓣 .Λ) (fmOf 𝓤 H (W .laws) 𝓣) known known′)
 
 pub parse-frame-spec : {M : Type 1} → stated.statement M
 unfolding code.routine tablesOf
