@@ -1,5 +1,5 @@
 -- The contract of `parse_frame` admits one answer: each thing that it speaks of equals the same value of the definition. Of the reference it
--- speaks as of the bytes behind it. Assumes nothing.
+-- says which bytes lie behind it and where they begin; these are the caller's bytes, so no more is left open than its ghost name. Assumes nothing.
 use Prim.Native.Nat.{ℕ}
 use mathlib.Core.Path.{_≡_, sym, _∙_}
 use mathlib.Core.List.{List}
