@@ -2,3 +2,5 @@
 pub mod Copy
 pub mod Places
 pub mod Parts
+pub mod Totals
+pub mod Lends

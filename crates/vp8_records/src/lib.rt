@@ -1,10 +1,11 @@
 // The records of parser.rs, with its names and order, and the starting values that belong to them.
 ghost use mathlib.Core.Path.{_≡_};
-ghost use Prim.Native.Nat.{_+_, _≤_};
-ghost use lib.ListN.{length, drop};
+ghost use Prim.Native.Nat.{_+_, _*_, _^_, _<_, _≤_};
+ghost use lib.ListN.{length, take, drop};
 ghost use Rattle.vp8_records.specs.Layout.{laidTokens, laidContexts, laidBands, laidCoeffs, laidMvContext, laidMv};
 ghost use Rattle.vp8_records.specs.Start.{freshSegmentation, freshAdjustments, freshCoeffs, freshMv, freshModes, keyModes, noQuant, noCoeffs, noMv, noModes, fresh, blank};
 ghost use Rattle.vp8_records.specs.Outcome.{numberOf};
+ghost use Rattle.vp8_records.specs.Length.{total, partitionsOf, lengthOf};
 
 pub struct QuantIndices {
     pub y_ac_qi: u8,
@@ -367,6 +368,52 @@ impl Parser {
             mode_probs,
         }
     }
+
+    // The kept segmentation, as a reference into the parser.
+    pub fn segmentation(&self) -> &Segmentation
+        ensures { λ r. ⌜ now r ≡ now (self .entry) .segmentation ⌝ }
+    {
+        &self.segmentation
+    }
+
+    // The kept filter adjustments, likewise.
+    pub fn mb_lf_adjust(&self) -> &MbLfAdjustments
+        ensures { λ r. ⌜ now r ≡ now (self .entry) .«mb_lf_adjust» ⌝ }
+    {
+        &self.mb_lf_adjust
+    }
+}
+
+// A number of 32 bits in 64: of an element that a call takes, the bound is known.
+fn wide(x: u32) -> usize
+    ensures { λ r. ⌜ (r ≡ x) × (r < 2 ^ 32) ⌝ }
+{
+    x as usize
+}
+
+// The sum of the first of the sizes.
+fn sum_of(sizes: &[u32; 8], count: usize) -> usize
+    requires { ⌜ count ≤ 8 ⌝ }
+    ensures { λ r. ⌜ (r ≡ total (take count (now (sizes .entry)))) × (r ≤ count * 2 ^ 32) ⌝ }
+{
+    let mut sum: usize = 0;
+    let mut i = 0;
+    while i < count {
+        sum += wide(sizes[i]);
+        i += 1;
+    }
+    sum
+}
+
+// The same for any count: there are eight.
+fn sum_of_any(sizes: [u32; 8], count: usize) -> usize
+    ensures { λ r. ⌜ (r ≡ total (take count sizes)) × (r ≤ 8 * 2 ^ 32) ⌝ }
+{
+    if count < 8 {
+        sum_of(&sizes, count)
+    } else {
+        sum_of(&sizes, 8)
+    }
 }
 
 impl Header {
@@ -420,5 +467,25 @@ impl Header {
             mb_cols: 0,
             mb_rows: 0,
         }
+    }
+
+    // How many partitions hold coefficients.
+    pub fn num_dct_partitions(self) -> usize
+        ensures { λ r. ⌜ r ≡ partitionsOf self ⌝ }
+    {
+        1usize << (self.log2_nbr_of_dct_partitions % 64)
+    }
+
+    // The length of the whole frame: chunk, first partition, size bytes, and each partition.
+    pub fn frame_len(self) -> usize
+        ensures { λ r. ⌜ r ≡ lengthOf self ⌝ }
+    {
+        let sizes = self.partition_size;
+        let count = self.num_dct_partitions();
+        let before = self.data_chunk_size as usize + self.first_part_size as usize;
+        let ends = before + sum_of_any(sizes, count);
+        let gaps = count - 1;
+        let coded = std::num::wrapping_add_usize(std::num::wrapping_add_usize(gaps, gaps), gaps);
+        std::num::wrapping_add_usize(ends, coded)
     }
 }

@@ -1,0 +1,52 @@
+// The lent forms of parser.rs, thin functions over the call by value: a parser behind `&mut`, and a frame that refers to the caller's bytes.
+use vp8_records::Header;
+use vp8_records::Outcome;
+use vp8_records::Parser;
+ghost use mathlib.Core.Path.{_≡_};
+ghost use Rattle.vp8_frame.specs.View.{viewed, Framed};
+
+// A header and the whole frame that it was read from; of a refusal, the blank header and an empty part.
+pub struct Frame<'a> {
+    pub outcome: Outcome,
+    pub header: Header,
+    pub bitstream: &'a [u8],
+}
+
+// The part that an answer refers to: it begins where the frame does.
+fn part_of<'a>(bytes: &'a [u8], outcome: Outcome) -> &'a [u8]
+    ensures { λ r. ⌜ (now r ≡ viewed outcome (now (bytes .entry))) × (r .ptr ≡ bytes .entry .ptr) ⌝ }
+{
+    match outcome {
+        Outcome::Accepted => bytes,
+        Outcome::ChunkTooShort => &bytes[..0],
+        Outcome::InvalidStartCode(_) => &bytes[..0],
+        Outcome::InvalidPartitionSize(_, _) => &bytes[..0],
+        Outcome::EmptyArea => &bytes[..0],
+        Outcome::EndOfHeader => &bytes[..0],
+        Outcome::FrameTooLong(_) => &bytes[..0],
+    }
+}
+
+// One call over a lent parser, which holds the new state when it returns, also where the frame is refused.
+pub fn parse_frame<'s, 'a>(parser: &'s mut Parser, bytes: &'a [u8]) -> Frame<'a>
+    ensures { λ r. ⌜ Framed (now (parser .entry)) (now (bytes .entry)) (r .outcome) (r .header) (now (r .bitstream)) (now (parser .exit))
+        × (r .bitstream .ptr ≡ bytes .entry .ptr) ⌝ }
+{
+    let parsed = vp8_parser::parse(*parser, bytes);
+    *parser = parsed.parser;
+    let bitstream = part_of(bytes, parsed.outcome);
+    Frame {
+        outcome: parsed.outcome,
+        header: parsed.header,
+        bitstream,
+    }
+}
+
+impl<'a> Frame<'a> {
+    // The bytes of the frame.
+    pub fn as_ref(&self) -> &'a [u8]
+        ensures { λ r. ⌜ r ≡ now (self .entry) .bitstream ⌝ }
+    {
+        self.bitstream
+    }
+}
