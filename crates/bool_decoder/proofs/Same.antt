@@ -4,10 +4,10 @@ use mathlib.Core.Path.{_≡_, sym, ap, _∙_}
 use mathlib.Core.Bool.{Bool}
 use mathlib.Core.List.{List}
 use lib.IntN.{ℤ}
-use Prim.Native.Nat.{ℕ, _+_, _-_, _*_, _/_, _%_, _^_}
-use native.Mathlib.Nat.{mul-div-cancel, add-sub-cancel}
+use Prim.Native.Nat.{ℕ, suc, _+_, _-_, _*_, _/_, _%_, _^_, _<_, _≤_}
+use native.Mathlib.Nat.{mul-div-cancel, add-sub-cancel, lt-of-not-le, le-antisymm, mul-assoc, mul-le-mul-left, pow-suc}
 use native.Mathlib.Omega.{arith}
-use lib.Pow.{pow-pos}
+use lib.Pow.{pow-pos, pow-mono}
 use Rattle.rfc6386.specs.Decoder.{State, Out, bits, position}
 use Rattle.rfc6386.specs.Reads.{Rd}
 use Rattle.bool_decoder.specs.Window.{rest, stateOf, limitOf, Over}
@@ -55,6 +55,16 @@ same {area} {d} {e} o p s = over-is area d o ∙ ap (decoderOf area) s ∙ sym (
 -- new
 pub same-fresh : {area : List ℕ} {d e : BoolDecoder} → Fresh area d → Fresh area e → d ≡ e
 same-fresh p q = same (p .over) (q .over) (p .state ∙ sym (q .state))
+
+-- norm: one doubling more of a range that has its top bit would leave the byte
+module _ (x r s : ℕ) where
+  no-more : 128 ≤ x * 2 ^ r → x * 2 ^ s < 256 → s ≤ r
+  no-more h l = omega (arith, lt-of-not-le {suc r} {s} (λ (g : suc r ≤ s).
+      let twice : x * 2 ^ r * 2 ≤ x * 2 ^ s = rw (mul-assoc x (2 ^ r) 2, ← pow-suc 2 r) (mul-le-mul-left x (pow-mono g)) in
+      omega (arith, h, l, twice)))
+
+pub same-norm : (x r s : ℕ) → (128 ≤ x * 2 ^ r) × (x * 2 ^ r < 256) → (128 ≤ x * 2 ^ s) × (x * 2 ^ s < 256) → r ≡ s
+same-norm x r s p q = le-antisymm (no-more x s r (q .0) (p .1)) (no-more x r s (p .0) (q .1))
 
 -- every reader, whatever its tree
 module _ {A : Type 0} {m : Rd A} {area : List ℕ} {d : BoolDecoder} {a b : A} {e f : BoolDecoder} {j k : ℕ} where
