@@ -5,16 +5,12 @@ use native.Mathlib.Omega.{arith}
 use mathlib.Core.Path.{_≡_, refl, ap, _∙_}
 use mathlib.Core.Bool.{Bool, true, false}
 use mathlib.Core.List.{List}
-use Rattle.rfc6386.specs.Decoder.{State, Out, bits, readBool}
-use Rattle.rfc6386.specs.Reads.{Rd, ret, ask, _>>=_, run, when}
+use Rattle.rfc6386.specs.Decoder.{Out, bits}
+use Rattle.rfc6386.specs.Reads.{Rd, ret, _>>=_, run, when}
+use Rattle.rfc6386.proofs.Trees.{run-bind}
 use Rattle.bool_decoder.specs.Window.{stateOf, Over}
 use Rattle.bool_decoder.specs.Model.{Good, Ran}
 use Rattle.bool_decoder.specs.declared.BoolDecoder.{BoolDecoder}
-
-pub run-bind : {A B : Type 0} (m : Rd A) (f : A → Rd B) (l : ℕ) (s : State) → run (m >>= f) l s ≡ run (f (run m l s .got)) l (run m l s .then)
-unfolding run _>>=_
-run-bind (ret a) f l s = refl
-run-bind (ask p k) f l s = run-bind (k (readBool l p s .got)) f l (readBool l p s .then)
 
 module _ {A B : Type 0} {area : List ℕ} where
   -- first m, then what f makes of its value

@@ -13,7 +13,7 @@ use Rattle.rfc6386.specs.Reads.{run, flag, bit, litFrom, lit, signed}
 use Rattle.bool_decoder.specs.Window.{stateOf, Over}
 use Rattle.bool_decoder.specs.Model.{Good, Ran, Lit}
 use Rattle.bool_decoder.specs.declared.BoolDecoder.{BoolDecoder}
-use Rattle.bool_decoder.proofs.Chain.{run-bind}
+use Rattle.rfc6386.proofs.Trees.{run-bind}
 
 pub bit-le : (b : Bool) → bit b ≤ 1
 bit-le true = lit≤ tt

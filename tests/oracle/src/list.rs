@@ -513,7 +513,7 @@ pub fn script_record(area: &[u8], reads: &[Read]) -> Vec<u8> {
     out
 }
 
-/// The bytes of bools.bin, and what they reach.
+/// The bytes of the list of scripts, and what they reach.
 pub fn bools(scripts: &[(u8, Vec<u8>, Vec<Read>)]) -> (Vec<u8>, Scripts) {
     let mut out = b"SBBOOLS1".to_vec();
     let mut stats = Scripts::default();

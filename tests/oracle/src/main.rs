@@ -290,7 +290,7 @@ fn main() {
             fixed.parts.iter().for_each(|(at, name)| println!("from sequence {at}: {name}"));
             stats.print();
             println!("lacking: {:?}", stats.missing());
-            println!("bools.bin: {} bytes", bools.len());
+            println!("scripts: {} bytes", bools.len());
             scripts.print();
             println!("lacking: {:?}", scripts.missing());
         }

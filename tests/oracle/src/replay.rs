@@ -168,7 +168,7 @@ fn parted(got: &str, want: &str) -> String {
     }
 }
 
-/// Arguments: the path of frames.bin and of bools.bin. 0 where nothing differs, 1 where something does.
+/// Arguments: the paths of the list of frames and of the list of scripts. 0 where nothing differs, 1 where something does.
 pub fn main(arguments: &[String]) -> i32 {
     std::panic::set_hook(Box::new(|_| {}));
     let read = |i: usize| {

@@ -2,8 +2,8 @@
 use native.Mathlib.Omega.{arith}
 use Rattle.bool_decoder.proofs.Table.{norms, rule}
 use borrow.Author.Needs.{needs}
-use Rattle.bool_decoder.proofs.norm.Statement.{statement}
-use Rattle.bool_decoder.proofs.norm.Tie as tie
+use Rattle.bool_decoder.proofs.norm.norm.Statement.{statement}
+use Rattle.bool_decoder.proofs.norm.norm.Tie as tie
 
 returns : tie.Need-returns
 returns c = search needs

@@ -1,0 +1,2 @@
+-- What the contracts of a script's reads cite.
+pub mod Script
