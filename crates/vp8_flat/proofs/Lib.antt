@@ -1,0 +1,3 @@
+-- Laws that several proofs, here and above, cite.
+pub mod Runs
+pub mod Whole

@@ -1,0 +1,49 @@
+-- After i turns the runs of the first i parts are put: `Runs`. Assumes nothing.
+use Prim.Native.Nat.{_-_}
+use mathlib.Core.Path.{_≡_}
+use lib.ListN.{length}
+use borrow.Author.Needs.{needs}
+use Rattle.bool_decoder.proofs.Each.{length-mapped}
+use Rattle.vp8_flat.proofs.Runs.{Put, begin, turn, end}
+use Rattle.vp8_records.specs.Layout.{flatMvContext}
+use Rattle.vp8_flat.proofs.put_motion.Statement.{statement}
+use Rattle.vp8_flat.proofs.put_motion.Tie as tie
+
+abbrev Inv-loop : tie.InvT-loop
+Inv-loop out₀ at row to₀ i₀ out to i = Put flatMvContext 2 out₀ at (row .v) out to i
+
+abbrev μ-loop : tie.MeasureT-loop
+μ-loop out₀ at row to₀ i₀ out to i = 2 - i
+
+lengths : (c : tie.Start Inv-loop μ-loop) → length (c .args .t3 .v) ≡ 2
+lengths c = search (needs, length-mapped)
+
+loop-holds : tie.Need-loop-holds Inv-loop μ-loop
+loop-holds c = begin
+
+mul-put-context : tie.Need-mul-put-context Inv-loop μ-loop
+mul-put-context c = search needs
+
+element-copy-out-put-context : tie.Need-element-copy-out-put-context Inv-loop μ-loop
+element-copy-out-put-context c = search needs
+
+put-context-requires : tie.Need-put-context-requires Inv-loop μ-loop
+put-context-requires c κs = search needs
+
+add-i : tie.Need-add-i Inv-loop μ-loop
+add-i c = search needs
+
+loop-less : tie.Need-loop-less Inv-loop μ-loop
+loop-less c = search needs
+
+loop-again : tie.Need-loop-again Inv-loop μ-loop
+loop-again c = turn _ (c .before .before .before .before .before .before .loop .inv) (c .before .before .before .before .before .loop-test .taken) (lengths (c .before .before .before .before .before .before .before .before)) (c .before .before .put-context .kept .0) (c .before .before .put-context .ensures)
+
+same-length : tie.Need-same-length Inv-loop μ-loop
+same-length c = c .before .loop .inv .size
+
+returns : tie.Need-returns Inv-loop μ-loop
+returns c = end (c .before .loop .inv) (lengths (c .before .before .before)) (c .loop-test .left)
+
+pub put-motion-spec : {M : Type 1} → statement M
+put-motion-spec = tie.close (tie.spec Inv-loop μ-loop loop-holds mul-put-context element-copy-out-put-context put-context-requires add-i loop-less loop-again same-length returns)

@@ -1,0 +1,45 @@
+-- The pieces one after the other, and together the kept numbers: `Whole`. Assumes nothing.
+use borrow.Author.Needs.{needs}
+use Rattle.vp8_flat.proofs.Runs.{then, worded}
+use Rattle.vp8_flat.proofs.Whole.{kept-is}
+use Rattle.vp8_flat.proofs.put_parser.Statement.{statement}
+use Rattle.vp8_flat.proofs.put_parser.Tie as tie
+
+put-segmentation-requires : tie.Need-put-segmentation-requires
+put-segmentation-requires c κs = search needs
+
+put-adjustments-requires : tie.Need-put-adjustments-requires
+put-adjustments-requires c κs = search needs
+
+put-coeffs-requires : tie.Need-put-coeffs-requires
+put-coeffs-requires c κs = search needs
+
+put-motion-requires : tie.Need-put-motion-requires
+put-motion-requires c κs = search needs
+
+put-modes-requires : tie.Need-put-modes-requires
+put-modes-requires c κs = search needs
+
+same-length : tie.Need-same-length
+same-length c = search needs
+
+returns : tie.Need-returns
+returns c =
+    worded _ _ _ _
+    (then _ _ _ _ _ (c .before .before .before .before .before .before .before .before .before .before .before .before .before .before .before .before .before .before .put-segmentation .ensures)
+    (then _ _ _ _ _ (c .before .before .before .before .before .before .before .before .before .before .before .before .before .before .put-adjustments .ensures)
+    (then _ _ _ _ _ (c .before .before .before .before .before .before .before .before .before .before .put-coeffs .ensures)
+    (then _ _ _ _ _ (c .before .before .before .before .before .before .put-motion .ensures) (c .before .before .put-modes .ensures)))))
+    (kept-is (c .before .before .before .before .before .before .before .before .before .before .before .before .before .before .before .before .before .before .before .before .before .before .before .before .before .before .args .parser))
+
+pub put-parser-spec : {M : Type 1} → statement M
+put-parser-spec =
+    tie.close
+    (tie.spec
+    put-segmentation-requires
+    put-adjustments-requires
+    put-coeffs-requires
+    put-motion-requires
+    put-modes-requires
+    same-length
+    returns)

@@ -1,0 +1,64 @@
+-- The pieces one after the other: `then` of `Runs`. Assumes nothing.
+use mathlib.Core.List.{[], _∷_}
+use borrow.Author.Needs.{needs}
+use Rattle.vp8_flat.proofs.Runs.{then, worded}
+use Rattle.vp8_flat.proofs.put_segmentation.Statement.{statement}
+use Rattle.vp8_flat.proofs.put_segmentation.Tie as tie
+
+bit-requires : tie.Need-bit-requires
+bit-requires c κs = search needs
+
+bit-requires-2 : tie.Need-bit-requires-2
+bit-requires-2 c κs = search needs
+
+bit-requires-3 : tie.Need-bit-requires-3
+bit-requires-3 c κs = search needs
+
+bit-requires-4 : tie.Need-bit-requires-4
+bit-requires-4 c κs = search needs
+
+slice-aggregate-bytes : tie.Need-slice-aggregate-bytes
+slice-aggregate-bytes c = search needs
+
+bytes-requires : tie.Need-bytes-requires
+bytes-requires c κs = search needs
+
+put-signed-requires : tie.Need-put-signed-requires
+put-signed-requires c κs = search needs
+
+put-signed-requires-2 : tie.Need-put-signed-requires-2
+put-signed-requires-2 c κs = search needs
+
+slice-aggregate-bytes-2 : tie.Need-slice-aggregate-bytes-2
+slice-aggregate-bytes-2 c = search needs
+
+bytes-requires-2 : tie.Need-bytes-requires-2
+bytes-requires-2 c κs = search needs
+
+same-length : tie.Need-same-length
+same-length c = search needs
+
+returns : tie.Need-returns
+returns c =
+    let s = c .before .before .before .before .before .before .before .before .before .before .before .before .before .before .before .before .before .before .before .before .before in
+    then _ _ _ _ _
+    (worded _ _ _ _ (c .before .before .before .before .before .before .before .before .before .before .before .before .before .before .before .bytes .ensures) (λ i. s .before .before .before .bit .ensures i ∷ s .before .before .bit2 .ensures i ∷ s .before .bit3 .ensures i ∷ s .bit4 .ensures i ∷ []))
+    (then _ _ _ _ _ (c .before .before .before .before .before .before .before .before .before .before .before .put-signed .ensures)
+    (then _ _ _ _ _ (c .before .before .before .before .before .before .before .put-signed2 .ensures) (c .before .before .bytes2 .ensures)))
+
+pub put-segmentation-spec : {M : Type 1} → statement M
+put-segmentation-spec =
+    tie.close
+    (tie.spec
+    bit-requires
+    bit-requires-2
+    bit-requires-3
+    bit-requires-4
+    slice-aggregate-bytes
+    bytes-requires
+    put-signed-requires
+    put-signed-requires-2
+    slice-aggregate-bytes-2
+    bytes-requires-2
+    same-length
+    returns)

@@ -1,0 +1,80 @@
+-- The numbers of a header and of an outcome, in the order of a dump line. Assumes nothing.
+use Prim.Native.Nat.{ℕ, zero, suc}
+use mathlib.Core.List.{List, [], _∷_}
+use mir.Val.{ofZ}
+use mir.Syntax.{w8}
+use Rattle.vp8_records.specs.declared.Header.{Header}
+use Rattle.vp8_records.specs.declared.QuantIndices.{QuantIndices}
+use Rattle.vp8_records.specs.declared.Outcome.{Outcome}
+use Rattle.vp8_records.specs.declared.Outcome.the-variants.{Accepted, ChunkTooShort, InvalidStartCode, InvalidPartitionSize, EmptyArea, EndOfHeader, FrameTooLong}
+use Rattle.vp8_flat.specs.declared.header.Carried.{Carried}
+use Rattle.vp8_flat.specs.Bytes.{bitOf}
+
+abbrev carry : ℕ → ℕ → ℕ → Carried
+carry n x y = record { number = n; a = x; b = y }
+
+-- a refusal's number and what it carries, as document 01 has them
+abbrev pub carriedOf : Outcome → Carried
+carriedOf Accepted = carry 0 0 0
+carriedOf ChunkTooShort = carry 1 0 0
+carriedOf (InvalidStartCode code) = carry 2 code 0
+carriedOf (InvalidPartitionSize end length) = carry 3 end length
+carriedOf EmptyArea = carry 4 0 0
+carriedOf EndOfHeader = carry 5 0 0
+carriedOf (FrameTooLong length) = carry 6 length 0
+
+abbrev pub partitionsOf : ℕ → ℕ
+partitionsOf zero = 1
+partitionsOf (suc zero) = 2
+partitionsOf (suc (suc zero)) = 4
+partitionsOf (suc (suc (suc n))) = 8
+
+abbrev pub shapeOf : Header → List ℕ
+shapeOf h =
+    bitOf (h .«key_frame»)
+    ∷ h .version
+    ∷ bitOf (h .«show_frame»)
+    ∷ h .«data_chunk_size»
+    ∷ h .«first_part_size»
+    ∷ h .width
+    ∷ h .height
+    ∷ h .«horiz_scale_code»
+    ∷ h .«vert_scale_code»
+    ∷ bitOf (h .«color_space»)
+    ∷ bitOf (h .«clamping_type»)
+    ∷ bitOf (h .«filter_type»)
+    ∷ h .«loop_filter_level»
+    ∷ h .«sharpness_level»
+    ∷ partitionsOf (h .«log2_nbr_of_dct_partitions»)
+    ∷ h .«log2_nbr_of_dct_partitions»
+    ∷ []
+
+abbrev pub quantOf : QuantIndices → List ℕ
+quantOf q =
+    q .«y_ac_qi»
+    ∷ ofZ w8 (q .«y_dc_delta»)
+    ∷ ofZ w8 (q .«y2_dc_delta»)
+    ∷ ofZ w8 (q .«y2_ac_delta»)
+    ∷ ofZ w8 (q .«uv_dc_delta»)
+    ∷ ofZ w8 (q .«uv_ac_delta»)
+    ∷ []
+
+abbrev pub flagsOf : Header → List ℕ
+flagsOf h =
+    bitOf (h .«refresh_entropy_probs»)
+    ∷ bitOf (h .«refresh_last»)
+    ∷ bitOf (h .«refresh_golden_frame»)
+    ∷ bitOf (h .«refresh_alternate_frame»)
+    ∷ h .«copy_buffer_to_golden»
+    ∷ h .«copy_buffer_to_alternate»
+    ∷ bitOf (h .«sign_bias_golden»)
+    ∷ bitOf (h .«sign_bias_alternate»)
+    ∷ bitOf (h .«mb_no_coeff_skip»)
+    ∷ h .«prob_skip_false»
+    ∷ h .«prob_intra»
+    ∷ h .«prob_last»
+    ∷ h .«prob_golden»
+    ∷ []
+
+abbrev pub tailOf : Header → List ℕ
+tailOf h = h .«bd_range» ∷ h .«bd_value» ∷ h .«bd_count» ∷ h .«header_size» ∷ h .bools ∷ h .«mb_cols» ∷ h .«mb_rows» ∷ []

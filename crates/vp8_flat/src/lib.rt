@@ -1,0 +1,201 @@
+// The records as runs: the 1,126 kept numbers of a parser, the probabilities and the numbers of a header, in the order of parser.rs.
+// A signed number is its two's complement byte, a flag 0 or 1. The writers put a run into a lent buffer, as `lines` does.
+pub mod header;
+
+use vp8_records::Bands;
+use vp8_records::CoeffProbs;
+use vp8_records::Contexts;
+use vp8_records::MbLfAdjustments;
+use vp8_records::ModeProbs;
+use vp8_records::MvContext;
+use vp8_records::MvProbs;
+use vp8_records::Parser;
+use vp8_records::Segmentation;
+use vp8_records::Tokens;
+ghost use mathlib.Core.Path.{_≡_};
+ghost use mathlib.Core.List.{map};
+ghost use mir.Val.{ofZ};
+ghost use mir.Syntax.{w8};
+ghost use Rattle.lines.specs.Text.{text, puts};
+ghost use Rattle.vp8_records.specs.Layout.{flatTokens, flatContexts, flatBands, flatCoeffs, flatMvContext, flatMv};
+ghost use Rattle.vp8_flat.specs.Bytes.{bitOf, flatModes, segmentationBytes, adjustmentBytes, keptBytes};
+
+pub fn bit(b: bool) -> u8
+    ensures { λ r. ⌜ r ≡ bitOf b ⌝ }
+{
+    if b { 1 } else { 0 }
+}
+
+pub fn byte_of(x: i8) -> u8
+    ensures { λ r. ⌜ r ≡ ofZ w8 x ⌝ }
+{
+    if x < 0 {
+        let m = (-1 - x) as u8;
+        255 - m
+    } else {
+        x as u8
+    }
+}
+
+fn put_signed(out: &mut [u8], at: usize, v: [i8; 4]) -> usize
+    ensures { λ r. ⌜ text (now (out .exit)) r ≡ puts (text (now (out .entry)) at) (map (ofZ w8) v) ⌝ }
+{
+    let mut to = at;
+    let mut i = 0;
+    while i < 4 {
+        to = lines::byte(out, to, byte_of(v[i]));
+        i += 1;
+    }
+    to
+}
+
+fn put_tokens(out: &mut [u8], at: usize, tokens: Tokens) -> usize
+    ensures { λ r. ⌜ text (now (out .exit)) r ≡ puts (text (now (out .entry)) at) (flatTokens tokens) ⌝ }
+{
+    let v = tokens.v;
+    lines::bytes(out, at, &v)
+}
+
+fn put_contexts(out: &mut [u8], at: usize, contexts: Contexts) -> usize
+    ensures { λ r. ⌜ text (now (out .exit)) r ≡ puts (text (now (out .entry)) at) (flatContexts contexts) ⌝ }
+{
+    let mut to = at;
+    let mut k = 0;
+    while k < 3 {
+        to = put_tokens(out, to, contexts.v[k]);
+        k += 1;
+    }
+    to
+}
+
+fn put_bands(out: &mut [u8], at: usize, bands: Bands) -> usize
+    ensures { λ r. ⌜ text (now (out .exit)) r ≡ puts (text (now (out .entry)) at) (flatBands bands) ⌝ }
+{
+    let mut to = at;
+    let mut j = 0;
+    while j < 8 {
+        to = put_contexts(out, to, bands.v[j]);
+        j += 1;
+    }
+    to
+}
+
+pub fn put_coeffs(out: &mut [u8], at: usize, coeffs: CoeffProbs) -> usize
+    ensures { λ r. ⌜ text (now (out .exit)) r ≡ puts (text (now (out .entry)) at) (flatCoeffs coeffs) ⌝ }
+{
+    let mut to = at;
+    let mut i = 0;
+    while i < 4 {
+        to = put_bands(out, to, coeffs.v[i]);
+        i += 1;
+    }
+    to
+}
+
+fn put_context(out: &mut [u8], at: usize, context: MvContext) -> usize
+    ensures { λ r. ⌜ text (now (out .exit)) r ≡ puts (text (now (out .entry)) at) (flatMvContext context) ⌝ }
+{
+    let v = context.v;
+    lines::bytes(out, at, &v)
+}
+
+pub fn put_motion(out: &mut [u8], at: usize, motion: MvProbs) -> usize
+    ensures { λ r. ⌜ text (now (out .exit)) r ≡ puts (text (now (out .entry)) at) (flatMv motion) ⌝ }
+{
+    let mut to = at;
+    let mut i = 0;
+    while i < 2 {
+        to = put_context(out, to, motion.v[i]);
+        i += 1;
+    }
+    to
+}
+
+pub fn put_modes(out: &mut [u8], at: usize, modes: ModeProbs) -> usize
+    ensures { λ r. ⌜ text (now (out .exit)) r ≡ puts (text (now (out .entry)) at) (flatModes modes) ⌝ }
+{
+    let luma = modes.intra_16x16_prob;
+    let chroma = modes.intra_chroma_prob;
+    let to = lines::bytes(out, at, &luma);
+    lines::bytes(out, to, &chroma)
+}
+
+fn put_segmentation(out: &mut [u8], at: usize, s: Segmentation) -> usize
+    ensures { λ r. ⌜ text (now (out .exit)) r ≡ puts (text (now (out .entry)) at) (segmentationBytes s) ⌝ }
+{
+    let flags = [
+        bit(s.segmentation_enabled),
+        bit(s.update_mb_segmentation_map),
+        bit(s.update_segment_feature_data),
+        bit(s.segment_feature_mode),
+    ];
+    let quantizers = s.quantizer_update_value;
+    let levels = s.lf_update_value;
+    let probs = s.segment_prob;
+    let to = lines::bytes(out, at, &flags);
+    let to = put_signed(out, to, quantizers);
+    let to = put_signed(out, to, levels);
+    lines::bytes(out, to, &probs)
+}
+
+fn put_adjustments(out: &mut [u8], at: usize, a: MbLfAdjustments) -> usize
+    ensures { λ r. ⌜ text (now (out .exit)) r ≡ puts (text (now (out .entry)) at) (adjustmentBytes a) ⌝ }
+{
+    let flags = [
+        bit(a.loop_filter_adj_enable),
+        bit(a.mode_ref_lf_delta_update),
+    ];
+    let frames = a.ref_frame_delta;
+    let modes = a.mb_mode_delta;
+    let to = lines::bytes(out, at, &flags);
+    let to = put_signed(out, to, frames);
+    put_signed(out, to, modes)
+}
+
+// All kept numbers.
+pub fn put_parser(out: &mut [u8], at: usize, parser: Parser) -> usize
+    ensures { λ r. ⌜ text (now (out .exit)) r ≡ puts (text (now (out .entry)) at) (keptBytes parser) ⌝ }
+{
+    let segmentation = parser.segmentation;
+    let adjustments = parser.mb_lf_adjust;
+    let coeffs = parser.coeff_prob;
+    let motion = parser.mv_prob;
+    let modes = parser.mode_probs;
+    let to = put_segmentation(out, at, segmentation);
+    let to = put_adjustments(out, to, adjustments);
+    let to = put_coeffs(out, to, coeffs);
+    let to = put_motion(out, to, motion);
+    put_modes(out, to, modes)
+}
+
+pub fn kept(parser: Parser) -> [u8; 1126]
+    ensures { λ r. ⌜ r ≡ keptBytes parser ⌝ }
+{
+    let mut out = [0u8; 1126];
+    put_parser(&mut out, 0, parser);
+    out
+}
+
+pub fn coeffs(c: CoeffProbs) -> [u8; 1056]
+    ensures { λ r. ⌜ r ≡ flatCoeffs c ⌝ }
+{
+    let mut out = [0u8; 1056];
+    put_coeffs(&mut out, 0, c);
+    out
+}
+
+pub fn motion(m: MvProbs) -> [u8; 38]
+    ensures { λ r. ⌜ r ≡ flatMv m ⌝ }
+{
+    let mut out = [0u8; 38];
+    put_motion(&mut out, 0, m);
+    out
+}
+
+pub fn modes(m: ModeProbs) -> [u8; 7]
+    ensures { λ r. ⌜ r ≡ flatModes m ⌝ }
+{
+    let mut out = [0u8; 7];
+    put_modes(&mut out, 0, m);
+    out
+}

@@ -1,0 +1,56 @@
+-- The measure is what is left of the run; the array keeps its length. Assumes nothing.
+use mathlib.Core.Path.{_≡_}
+use Prim.Native.Nat.{_-_, _≤_}
+use lib.ListN.{length}
+use borrow.Author.Needs.{needs}
+use Rattle.vp8_replay.proofs.compare.run.Statement.{statement}
+use Rattle.vp8_replay.proofs.compare.run.Tie as tie
+
+abbrev Inv-loop : tie.InvT-loop
+Inv-loop to₀ at from next₀ i₀ to next i = (i ≤ length from) × (length to ≡ length to₀)
+
+abbrev μ-loop : tie.MeasureT-loop
+μ-loop to₀ at from next₀ i₀ to next i = length from - i
+
+loop-holds : tie.Need-loop-holds Inv-loop μ-loop
+loop-holds c = search needs
+
+mul-put : tie.Need-mul-put Inv-loop μ-loop
+mul-put c = search needs
+
+shared-slice-read-put : tie.Need-shared-slice-read-put Inv-loop μ-loop
+shared-slice-read-put c = search needs
+
+put-requires : tie.Need-put-requires Inv-loop μ-loop
+put-requires c κs = search needs
+
+add-i : tie.Need-add-i Inv-loop μ-loop
+add-i c = search needs
+
+loop-less : tie.Need-loop-less Inv-loop μ-loop
+loop-less c = search needs
+
+loop-again : tie.Need-loop-again Inv-loop μ-loop
+loop-again c = search needs
+
+same-length : tie.Need-same-length Inv-loop μ-loop
+same-length c = search needs
+
+returns : tie.Need-returns Inv-loop μ-loop
+returns c = search needs
+
+pub run-spec : {M : Type 1} → statement M
+run-spec =
+    tie.close
+    (tie.spec
+    Inv-loop
+    μ-loop
+    loop-holds
+    mul-put
+    shared-slice-read-put
+    put-requires
+    add-i
+    loop-less
+    loop-again
+    same-length
+    returns)
