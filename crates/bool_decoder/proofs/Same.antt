@@ -59,7 +59,7 @@ same-fresh p q = same (p .over) (q .over) (p .state ∙ sym (q .state))
 -- norm: one doubling more of a range that has its top bit would leave the byte
 module _ (x r s : ℕ) where
   no-more : 128 ≤ x * 2 ^ r → x * 2 ^ s < 256 → s ≤ r
-  no-more h l = omega (arith, lt-of-not-le {suc r} {s} (λ (g : suc r ≤ s).
+  no-more h l = omega (arith, lt-of-not-le {n = suc r} {m = s} (λ (g : suc r ≤ s).
       let twice : x * 2 ^ r * 2 ≤ x * 2 ^ s = rw (mul-assoc x (2 ^ r) 2, ← pow-suc 2 r) (mul-le-mul-left x (pow-mono g)) in
       omega (arith, h, l, twice)))
 

@@ -57,7 +57,7 @@ pub fn refusal(outcome: Outcome) -> Carried
 }
 
 // How many partitions hold coefficients.
-pub fn partitions(log2: u8) -> u32
+fn partitions(log2: u8) -> u32
     ensures { λ r. ⌜ r ≡ partitionsOf log2 ⌝ }
 {
     match log2 {
