@@ -66,7 +66,7 @@ const WIDTHS: [u8; 50] = [
     2,
 ];
 
-// What has been replayed: frames in all and in this sequence. And whether there may be more.
+// Frames are counted in all and within the sequence; `more` says whether the list may go on.
 struct Tally {
     sequences: u64,
     frames: u64,
@@ -75,7 +75,7 @@ struct Tally {
     more: bool,
 }
 
-// The parser, and what the list expects of it so far: kept numbers, and the header's probabilities; and what a fresh one keeps.
+// The parser, and what has been replayed.
 struct Replay {
     parser: Parser,
     tally: Tally,
@@ -199,6 +199,7 @@ fn take_answer(
     }
 }
 
+// The answer to one frame, held against the stored one.
 fn frame(replay: Replay, case: u32, bytes: &[u8], probs: &mut [u8], kept: &mut [u8]) -> Replay {
     let mut given = [0u32; 3];
     let mut numbers = [0u32; 50];

@@ -5,7 +5,7 @@ pub const PROBS: usize = 1101;
 pub const COEFFS: usize = 1056;
 pub const MOTION: usize = 38;
 
-/// The header's numbers in the order of the dump line, with their bytes in frames.bin.
+/// The header's numbers in the order of the dump line, with their bytes in the list of frames.
 pub const NUMBERS: [(&str, usize); 50] = [
     ("key", 1), ("ver", 1), ("show", 1), ("chunk", 1), ("first", 4), ("w", 2), ("h", 2),
     ("hs", 1), ("vs", 1), ("cs", 1), ("ct", 1), ("ft", 1), ("lvl", 1), ("sharp", 1), ("n", 1), ("log2", 1),

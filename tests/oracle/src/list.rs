@@ -380,7 +380,7 @@ fn patch(out: &mut Vec<u8>, old: &[u8], new: &[u8]) {
     }
 }
 
-/// The bytes of frames.bin, and what they reach. Every answer is held against document 01's rules.
+/// The bytes of the list of frames, and what they reach. Every answer is held against document 01's rules.
 pub fn frames(sequences: &[Vec<Item>]) -> (Vec<u8>, Stats) {
     let fresh = Engine::new().kept();
     assert_eq!(fresh.len(), KEPT);

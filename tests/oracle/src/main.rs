@@ -286,7 +286,7 @@ fn main() {
         ["stats"] => {
             let fixed = fixed_list();
             let ((frames, stats), (bools, scripts)) = (list::frames(&fixed.sequences), list::bools(&list::scripts()));
-            println!("frames.bin: {} bytes", frames.len());
+            println!("frames: {} bytes", frames.len());
             fixed.parts.iter().for_each(|(at, name)| println!("from sequence {at}: {name}"));
             stats.print();
             println!("lacking: {:?}", stats.missing());
