@@ -24,7 +24,7 @@ picked : (t : ℕ) (b : Bool) → ltb t 127 ≡ b → (128 ≤ pick b 128 (t + 1
 picked t true e = (lit≤ tt, omega (arith, ltb-true t 127 e))
 picked t false e = (omega (arith, ltb-false t 127 e), omega arith)
 
-limit-low : (w : ℕ) → 128 ≤ limitOf w
+pub limit-low : (w : ℕ) → 128 ≤ limitOf w
 unfolding limitOf
 limit-low w = picked (w / 2 ^ 56) (ltb (w / 2 ^ 56) 127) refl .0
 

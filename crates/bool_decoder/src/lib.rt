@@ -216,7 +216,7 @@ impl BoolDecoder {
         }
     }
 
-    // A bool at even chances: it doubles once, or not at all.
+    // A bool at even chances: it doubles once, or not at all. The limit is made of the window each time, so that a run of them makes it once.
     pub fn read_flag(self, area: &[u8]) -> Bit
         requires { ⌜ Good (now area) self 1 ⌝ }
         ensures { λ r. ⌜ Ran flag (now (area .entry)) self (r .bit) (r .dec) 1 ⌝ }
@@ -241,7 +241,7 @@ impl BoolDecoder {
                     bit: false,
                     dec: BoolDecoder {
                         range: split,
-                        limit: self.limit,
+                        limit: limit_of(self.value),
                         value: self.value,
                         doublings: self.doublings,
                         bools: self.bools + 1,

@@ -261,13 +261,16 @@ const NORM: [u8; 256] = [
     0,
 ];
 
-// Tested for 128 first, since a constant array is made anew wherever it is named.
+// Tested for 128 and 64 first, since a constant array is made anew wherever it is named.
 pub fn norm(range: u32) -> u32
     requires { ⌜ (0 < range) × (range < 256) ⌝ }
     ensures { λ r. ⌜ (128 ≤ range * 2 ^ r) × (range * 2 ^ r < 256) × (r ≤ 7) ⌝ }
 {
     if 128 <= range {
         return 0;
+    }
+    if 64 <= range {
+        return 1;
     }
     NORM[range as usize] as u32
 }

@@ -5,3 +5,5 @@ pub mod Made
 pub mod Signs
 pub mod Shapes
 pub mod Same
+pub mod Runs
+pub mod Nested

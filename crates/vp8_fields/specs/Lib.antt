@@ -1,2 +1,3 @@
 -- What the contracts cite beside the definition.
 pub mod Parts
+pub mod Quiet

@@ -10,20 +10,22 @@ use vp8_records::MvContext;
 use vp8_records::MvProbs;
 use vp8_records::QuantIndices;
 use vp8_records::Segmentation;
-use vp8_records::Tokens;
 ghost use mathlib.Core.Path.{_≡_};
 ghost use mathlib.Core.Bool.{false};
 ghost use mathlib.Core.Option.{some};
 ghost use mathlib.Core.List.{[]};
-ghost use Prim.Native.Nat.{_+_, _*_, _≤_};
+ghost use Prim.Native.Nat.{_+_, _-_, _*_, _/_, _<_, _≤_};
+ghost use lib.ListN.{set};
 ghost use Rattle.vp8_probs.specs.Tables.{coeffUpdate, mvUpdate};
-ghost use Rattle.vp8_records.specs.Layout.{flatTokens, laidTokens, flatContexts, laidContexts, flatBands, laidBands, flatMvContext, laidMvContext};
+ghost use Rattle.vp8_records.specs.Layout.{flatContexts, flatBands, laidBands, flatMvContext, laidMvContext};
+ghost use Rattle.vp8_records.specs.Shape.{SizedContexts};
 ghost use Rattle.rfc6386.specs.Reads.{flag, when, lit, sint, make, times, maybe, orElse};
 ghost use Rattle.rfc6386.specs.Runs.{or, over};
 ghost use Rattle.rfc6386.specs.Coded.{anew, features, noFeatures, segments, deltas, quant, coefficients, mvOf, motion, modes};
 ghost use Rattle.rfc6386.specs.Call.{segmented, adjusted, coeffsOver, mvOver};
 ghost use Rattle.bool_decoder.specs.Model.{Good, Ran, Lit};
 ghost use Rattle.vp8_fields.specs.Parts.{coded, codedMv, part};
+ghost use Rattle.vp8_fields.specs.Quiet.{Quiet};
 
 // What was read, and the decoder after it.
 pub struct Byte {
@@ -66,13 +68,9 @@ pub struct QuantRead {
     pub dec: BoolDecoder,
 }
 
-pub struct TokensRead {
-    pub row: Tokens,
-    pub dec: BoolDecoder,
-}
-
-pub struct ContextsRead {
-    pub row: Contexts,
+// Where a run of bools ended, and the decoder there.
+pub struct Run {
+    pub at: usize,
     pub dec: BoolDecoder,
 }
 
@@ -339,68 +337,114 @@ pub fn parse_quant_indices(area: &[u8], dec: BoolDecoder) -> QuantRead
     }
 }
 
-// The eleven of one context, whose chances stand in the table from `at` on.
-fn tokens(area: &[u8], table: &[u8; 1056], dec: BoolDecoder, at: usize, row: Tokens) -> TokensRead
-    requires { ⌜ (now table ≡ coeffUpdate) × (at + 11 ≤ 1056) × Good (now area) dec 99 ⌝ }
-    ensures { λ r. ⌜ Ran (part flatTokens laidTokens 11 coded coeffUpdate at row) (now (area .entry)) dec (r .row) (r .dec) 99 ⌝ }
+// What a 0 leaves of the range, both taken less 1, so that nothing is added at a step.
+fn step(low: u32, p: u8) -> u32
+    requires { ⌜ low < 256 ⌝ }
+    ensures { λ r. ⌜ (r ≡ low * p / 256) × (r * 256 ≤ low * 255) ⌝ }
 {
-    let mut out = row;
-    let mut next = dec;
-    let mut l = 0;
-    while l < 11 {
-        let p = table[at + l];
-        let n = byte_or(area, next, p, out.v[l]);
-        next = n.dec;
-        out.v[l] = n.value;
-        l += 1;
-    }
-    TokensRead {
-        row: out,
-        dec: next,
-    }
+    low * (p as u32) / 256
 }
 
-// The three contexts of a band.
-fn contexts(
-    area: &[u8],
-    table: &[u8; 1056],
-    dec: BoolDecoder,
-    at: usize,
-    row: Contexts,
-) -> ContextsRead
-    requires { ⌜ (now table ≡ coeffUpdate) × (at + 33 ≤ 1056) × Good (now area) dec 297 ⌝ }
-    ensures { λ r. ⌜ Ran (part flatContexts laidContexts 33 coded coeffUpdate at row) (now (area .entry)) dec (r .row) (r .dec) 297 ⌝ }
+// Bools of a block type that the limit alone tells to be 0, four at a time: the range falls, so the last of them tells for all.
+fn fours(area: &[u8], table: &[u8; 1056], dec: BoolDecoder, at: usize, from: usize) -> Run
+    requires { ⌜ (now table ≡ coeffUpdate) × (at + 264 ≤ 1056) × (from ≤ 264) × Good (now area) dec (264 - from) ⌝ }
+    ensures { λ r. ⌜ (r .at ≤ 264) × Quiet (now (area .entry)) coeffUpdate at from dec (r .at) (r .dec) ⌝ }
 {
-    let mut out = row;
-    let mut next = dec;
-    let mut k = 0;
-    while k < 3 {
-        let n = tokens(area, table, next, at + k * 11, out.v[k]);
-        next = n.dec;
-        let made = n.row;
-        out.v[k] = made;
-        k += 1;
+    let bound = dec.limit - 1;
+    let mut low = dec.range - 1;
+    let mut i = from;
+    while i < 261 {
+        let a = step(low, table[at + i]);
+        let b = step(a, table[at + i + 1]);
+        let c = step(b, table[at + i + 2]);
+        let d = step(c, table[at + i + 3]);
+        if d < bound {
+            break;
+        }
+        low = d;
+        i += 4;
     }
-    ContextsRead {
-        row: out,
-        dec: next,
-    }
+    let after = BoolDecoder {
+        range: low + 1,
+        limit: dec.limit,
+        value: dec.value,
+        doublings: dec.doublings,
+        bools: dec.bools + (i - from) as u32,
+    };
+    Run { at: i, dec: after }
 }
 
-// The eight bands of a block type.
+// The same one at a time.
+fn singles(area: &[u8], table: &[u8; 1056], dec: BoolDecoder, at: usize, from: usize) -> Run
+    requires { ⌜ (now table ≡ coeffUpdate) × (at + 264 ≤ 1056) × (from ≤ 264) × Good (now area) dec (264 - from) ⌝ }
+    ensures { λ r. ⌜ (r .at ≤ 264) × Quiet (now (area .entry)) coeffUpdate at from dec (r .at) (r .dec) ⌝ }
+{
+    let bound = dec.limit - 1;
+    let mut low = dec.range - 1;
+    let mut i = from;
+    while i < 264 {
+        let next = step(low, table[at + i]);
+        if next < bound {
+            break;
+        }
+        low = next;
+        i += 1;
+    }
+    let after = BoolDecoder {
+        range: low + 1,
+        limit: dec.limit,
+        value: dec.value,
+        doublings: dec.doublings,
+        bools: dec.bools + (i - from) as u32,
+    };
+    Run { at: i, dec: after }
+}
+
+// All of them up to the first that needs the window.
+fn zeros(area: &[u8], table: &[u8; 1056], dec: BoolDecoder, at: usize, from: usize) -> Run
+    requires { ⌜ (now table ≡ coeffUpdate) × (at + 264 ≤ 1056) × (from ≤ 264) × Good (now area) dec (264 - from) ⌝ }
+    ensures { λ r. ⌜ (r .at ≤ 264) × Quiet (now (area .entry)) coeffUpdate at from dec (r .at) (r .dec) ⌝ }
+{
+    let four = fours(area, table, dec, at, from);
+    singles(area, table, four.dec, at, four.at)
+}
+
+// The three contexts of a band, with one of their 33 probabilities anew.
+fn put(row: Contexts, at: usize, value: u8) -> Contexts
+    requires { ⌜ at < 33 ⌝ }
+    ensures { λ r. ⌜ SizedContexts r × (flatContexts r ≡ set (flatContexts row) at value) ⌝ }
+{
+    let mut out = row;
+    let k = at / 11;
+    let l = at % 11;
+    let mut tokens = out.v[k];
+    tokens.v[l] = value;
+    out.v[k] = tokens;
+    out
+}
+
+// The 264 of a block type, whose chances stand in the table from `at` on. Nearly all flags are 0, so runs of them are passed over.
 fn bands(area: &[u8], table: &[u8; 1056], dec: BoolDecoder, at: usize, row: Bands) -> BandsRead
     requires { ⌜ (now table ≡ coeffUpdate) × (at + 264 ≤ 1056) × Good (now area) dec 2376 ⌝ }
     ensures { λ r. ⌜ Ran (part flatBands laidBands 264 coded coeffUpdate at row) (now (area .entry)) dec (r .row) (r .dec) 2376 ⌝ }
 {
     let mut out = row;
     let mut next = dec;
-    let mut j = 0;
-    while j < 8 {
-        let n = contexts(area, table, next, at + j * 33, out.v[j]);
-        next = n.dec;
-        let made = n.row;
-        out.v[j] = made;
-        j += 1;
+    let mut i = 0;
+    while i < 264 {
+        let update = next.read_bit(area, table[at + i]);
+        if update.bit {
+            let n = read_byte(area, update.dec, 8);
+            let j = i / 33;
+            let made = put(out.v[j], i % 33, n.value);
+            out.v[j] = made;
+            next = n.dec;
+        } else {
+            next = update.dec;
+        }
+        let run = zeros(area, table, next, at, i + 1);
+        next = run.dec;
+        i = run.at;
     }
     BandsRead {
         row: out,

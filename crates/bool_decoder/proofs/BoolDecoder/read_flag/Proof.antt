@@ -37,32 +37,35 @@ add-t13 c = search needs
 add-t14 : tie.Need-add-t14
 add-t14 c = search needs
 
-add-t17 : tie.Need-add-t17
-add-t17 c = search needs
+limit-of-requires-2 : tie.Need-limit-of-requires-2
+limit-of-requires-2 c κs = search needs
+
+add-t18 : tie.Need-add-t18
+add-t18 c = search needs
 
 returns : tie.Need-returns
 unfolding flag
 returns c =
-    let start = c .before .before .before .before .before .before .before in
-    let s = c .before .before .before .before .before .half-of .ensures in
-    let big = c .before .before .before .before .bigsplit .ensures in
-    let chosen = chosen-zero (start .pre .over) 128 (s .0) (omega (arith, s .3)) big (c .before .before .if1 .left) in
-    as-it-is (start .pre) chosen (c .before .if2 .taken) (start .pre .over .limit)
+    let start = c .before .before .before .before .before .before .before .before in
+    let s = c .before .before .before .before .before .before .half-of .ensures in
+    let big = c .before .before .before .before .before .bigsplit .ensures in
+    let chosen = chosen-zero (start .pre .over) 128 (s .0) (omega (arith, s .3)) big (c .before .before .before .if1 .left) in
+    as-it-is (start .pre) chosen (c .before .before .if2 .taken) (c .before .limit-of2 .ensures)
 
 fill-requires-2 : tie.Need-fill-requires-2
 fill-requires-2 c κs = search needs
 
-mul-t19 : tie.Need-mul-t19
-mul-t19 c = search needs
+mul-t20 : tie.Need-mul-t20
+mul-t20 c = search needs
 
-limit-of-requires-2 : tie.Need-limit-of-requires-2
-limit-of-requires-2 c κs = search needs
-
-add-t21 : tie.Need-add-t21
-add-t21 c = search needs
+limit-of-requires-3 : tie.Need-limit-of-requires-3
+limit-of-requires-3 c κs = search needs
 
 add-t22 : tie.Need-add-t22
 add-t22 c = search needs
+
+add-t23 : tie.Need-add-t23
+add-t23 c = search needs
 
 returns-2 : tie.Need-returns-2
 unfolding flag
@@ -82,7 +85,7 @@ returns-3 c =
     let big = c .before .before .before .before .before .before .before .bigsplit .ensures in
     let chosen = chosen-zero (start .pre .over) 128 (s .0) (omega (arith, s .3)) big (c .before .before .before .before .before .if1 .left) in
     doubled (start .pre) chosen 1 (omega (arith, s .1)) (omega (arith, c .before .before .before .before .if2 .left)) (lit≤ tt) refl
-    (c .before .before .limit-of2 .ensures) (c .before .before .before .fill2 .ensures)
+    (c .before .before .limit-of3 .ensures) (c .before .before .before .fill2 .ensures)
 
 pub read-flag-spec : {M : Type 1} → statement M
 read-flag-spec =
@@ -96,12 +99,13 @@ read-flag-spec =
     limit-of-requires
     add-t13
     add-t14
-    add-t17
+    limit-of-requires-2
+    add-t18
     returns
     fill-requires-2
-    mul-t19
-    limit-of-requires-2
-    add-t21
+    mul-t20
+    limit-of-requires-3
     add-t22
+    add-t23
     returns-2
     returns-3)
