@@ -59,9 +59,12 @@ same-fresh p q = same (p .over) (q .over) (p .state ∙ sym (q .state))
 -- norm: one doubling more of a range that has its top bit would leave the byte
 module _ (x r s : ℕ) where
   no-more : 128 ≤ x * 2 ^ r → x * 2 ^ s < 256 → s ≤ r
-  no-more h l = omega (arith, lt-of-not-le {n = suc r} {m = s} (λ (g : suc r ≤ s).
-      let twice : x * 2 ^ r * 2 ≤ x * 2 ^ s = rw (mul-assoc x (2 ^ r) 2, ← pow-suc 2 r) (mul-le-mul-left x (pow-mono g)) in
-      omega (arith, h, l, twice)))
+  no-more h l = omega (
+    arith,
+    lt-of-not-le {n = suc r} {m = s} (λ (g : suc r ≤ s).
+        let twice : x * 2 ^ r * 2 ≤ x * 2 ^ s = rw (mul-assoc x (2 ^ r) 2, ← pow-suc 2 r) (mul-le-mul-left x (pow-mono g)) in
+        omega (arith, h, l, twice)),
+  )
 
 pub same-norm : (x r s : ℕ) → (128 ≤ x * 2 ^ r) × (x * 2 ^ r < 256) → (128 ≤ x * 2 ^ s) × (x * 2 ^ s < 256) → r ≡ s
 same-norm x r s p q = le-antisymm (no-more x s r (q .0) (p .1)) (no-more x r s (p .0) (q .1))
