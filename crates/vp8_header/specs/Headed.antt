@@ -1,11 +1,10 @@
--- A header read to its end, before its partition sizes are known, and the state after it: the definition's, over the whole area.
+-- A header read to its end, before its partition sizes are known, and the state after it: the definition's, over the bytes that the decoder may read.
 use Prim.Native.Nat.{ℕ}
 use mathlib.Core.List.{List, []}
 use Rattle.vp8_records.specs.declared.Parser.{Parser}
-use Rattle.rfc6386.specs.Decoder.{Out, start, bits}
-use Rattle.rfc6386.specs.Reads.{run}
-use Rattle.rfc6386.specs.Coded.{Coded, header}
-use Rattle.rfc6386.specs.Frame.{Chunk, snapshot}
+use Rattle.rfc6386.specs.Decoder.{Out, bits}
+use Rattle.rfc6386.specs.Coded.{Coded}
+use Rattle.rfc6386.specs.Frame.{Chunk, snapshot, decoded}
 use Rattle.rfc6386.specs.Call.{probsOf, probsOver, shown, apply, headerOf}
 use Rattle.vp8_header.specs.declared.DataChunk.{DataChunk}
 use Rattle.vp8_header.specs.declared.Headed.{Headed}
@@ -30,4 +29,4 @@ headedBy k p l o = record {
 }
 
 unfoldable pub headedOf : Chunk → List ℕ → Parser → Headed
-headedOf k area p = headedBy k p (bits area) (run (header (k .key)) (bits area) (start area))
+headedOf k bytes p = headedBy k p (bits bytes) (decoded (k .key) bytes)

@@ -14,7 +14,7 @@ use Rattle.rfc6386.specs.Decoder.{pick}
 use Rattle.rfc6386.specs.Frame.{Snapshot}
 use Rattle.rfc6386.specs.Reads.{Rd, ret, _>>=_, flag, when, lit}
 use Rattle.rfc6386.specs.Coded.{Segments, Deltas, Refresh, Inter, Coded, segments, deltas, quant, refresh, coefficients, inter, noInter}
-use Rattle.rfc6386.specs.Call.{segmented, adjusted, coeffsOver, mvOver, modesOver, Probs}
+use Rattle.rfc6386.specs.Call.{segmented, adjusted, coeffsOver, mvOver, modesOver, Probs, blocks}
 use lib.ListN.{replicate}
 use Rattle.vp8_header.specs.declared.DataChunk.{DataChunk}
 use Rattle.vp8_header.specs.declared.First as F
@@ -176,8 +176,8 @@ headerFrom k x y z s = record {
   «bd_count» = s .count;
   «header_size» = s .position;
   «bools» = s .bools;
-  «mb_cols» = k .«width_code» % 2 ^ 14 / 16;
-  «mb_rows» = k .«height_code» % 2 ^ 14 / 16;
+  «mb_cols» = blocks (k .«width_code» % 2 ^ 14);
+  «mb_rows» = blocks (k .«height_code» % 2 ^ 14);
 }
 
 -- the probabilities in a third stage
