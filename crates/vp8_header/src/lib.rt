@@ -18,8 +18,8 @@ ghost use Rattle.rfc6386.specs.Coded.{refresh, inter, noInter};
 ghost use Rattle.rfc6386.specs.Call.{keeping, probsOf, blocks};
 ghost use Rattle.bool_decoder.specs.Model.{Good, Ran};
 ghost use Rattle.bool_decoder.specs.Window.{stateOf, Over};
-ghost use Rattle.vp8_header.specs.Stages.{first, firstOf, refreshOf, second, secondOf, interOf, third, thirdOf, probsIn, headerFrom};
-ghost use Rattle.vp8_header.specs.Headed.{chunkOf, headedOf};
+ghost use Rattle.vp8_header.specs.Stages.{first, firstOf, refreshOf, second, secondOf, interOf, third, thirdOf, probsIn};
+ghost use Rattle.vp8_header.specs.Headed.{chunkOf, Heads, headedOf};
 
 // The uncompressed chunk. A size code holds 14 bits of size below 2 of scale.
 pub struct DataChunk {
@@ -342,7 +342,7 @@ fn header_of(
     dec: BoolDecoder,
 ) -> Header
     requires { ⌜ Over (now area) dec ⌝ }
-    ensures { λ r. ⌜ r ≡ headerFrom chunk first second third (snapshot (bits (now (area .entry))) (stateOf (now (area .entry)) dec)) ⌝ }
+    ensures { λ r. ⌜ Heads r chunk first second third (snapshot (bits (now (area .entry))) (stateOf (now (area .entry)) dec)) ⌝ }
 {
     let width = chunk.width_code % 16384;
     let height = chunk.height_code % 16384;

@@ -1,7 +1,8 @@
 -- Field by field, with the equations that the calls ensure; two rewrites, since one would pass the checker's limit of steps.
 use borrow.Author.Needs.{needs}
 use Rattle.rfc6386.specs.Frame.{snapshot}
-use Rattle.vp8_header.specs.Stages.{headerFrom}
+use Rattle.rfc6386.specs.Call.{probsOver, headerOf}
+use Rattle.vp8_header.specs.Stages.{firstOf, secondOf, interOf, thirdOf}
 use Rattle.vp8_header.proofs.header_of.Statement.{statement}
 use Rattle.vp8_header.proofs.header_of.Tie as tie
 
@@ -27,12 +28,13 @@ blocks-requires-2 : tie.Need-blocks-requires-2
 blocks-requires-2 c κs = search needs
 
 returns : tie.Need-returns
-unfolding headerFrom snapshot
-returns c =
+unfolding headerOf snapshot probsOver firstOf secondOf thirdOf interOf
+returns c p a b t ex ey ez =
     let at-snapshot = c .before .before in
     let s = at-snapshot .snapshot .ensures in
     let modes = at-snapshot .before .before .mode-probs-init-defaults .ensures in
-    rw (modes, at-snapshot .before .pos .ensures, s .range, s .value, s .count) (rw (c .before .blocks2 .ensures, c .blocks3 .ensures))
+    rw (modes, at-snapshot .before .pos .ensures, s .range, s .value, s .count)
+    (rw (c .before .blocks2 .ensures, c .blocks3 .ensures) (rw (ex, ey, ez)))
 
 pub header-of-spec : {M : Type 1} → statement M
 header-of-spec =
