@@ -10,7 +10,7 @@ use lib.ListN.{length}
 use Rattle.vp8_probs.specs.Tables.{coeffUpdate, mvUpdate}
 use Rattle.rfc6386.specs.Decoder.{State, start, bits, readBool}
 use Rattle.rfc6386.specs.Reads.{Rd, ret, ask, _>>=_, run, bool, flag, when, litFrom, lit, sint, make, times, each, maybe, orElse}
-use Rattle.rfc6386.specs.Coded.{anew, features, segments, deltas, quant, refresh, coefficients, motion, modes, inter, noInter, header}
+use Rattle.rfc6386.specs.Coded.{anew, features, noFeatures, mapped, segments, deltas, quant, refresh, coefficients, motion, modes, inter, noInter, header}
 use Rattle.rfc6386.proofs.Trees.{run-bind}
 use Rattle.rfc6386.proofs.Range.{read-few}
 
@@ -89,12 +89,15 @@ values : {A : Type 0} {m : Rd A} (n : ℕ) (x : A) {lo hi : ℕ} → Counted m l
 unfolding anew
 values n x p = many n (made _ (or-else x p))
 
+of-features : Counted features 9 69
+unfolding features
+of-features = both _ a-flag (λ mode. both _ (values 4 _ (a-sint 7)) (λ q. both _ (values 4 _ (a-sint 6)) (λ l. none _)))
+
 of-segments : Counted segments 1 99
-unfolding segments features
+unfolding segments
 of-segments =
     both _ a-flag (λ e. both _ (under e false a-flag) (λ m. both _ (under e false a-flag) (λ d.
-    under d _ (both _ a-flag (λ mode. both _ (values 4 _ (a-sint 7)) (λ q. both _ (values 4 _ (a-sint 6)) (λ l.
-    both _ (under m [] (values 3 255 (a-lit 8))) (λ p. none _))))))))
+    both _ (under d noFeatures of-features) (λ f. both _ (under (mapped m d) [] (values 3 255 (a-lit 8))) (λ p. none _)))))
 
 of-deltas : Counted deltas 1 66
 unfolding deltas
