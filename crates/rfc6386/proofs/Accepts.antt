@@ -1,4 +1,4 @@
--- What an accepted call was made of: the definition's tests taken apart, once. By cases on each test. Assumes nothing.
+-- What an accepted call was made of: the definition's tests taken apart, once. By cases on each test.
 use Prim.Native.Nat.{ℕ, _+_, _%_, _^_, _≤_, _<_}
 use native.Mathlib.Omega.{arith}
 use mathlib.Core.Path.{_≡_, refl, ap}

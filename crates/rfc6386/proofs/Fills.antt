@@ -1,5 +1,5 @@
 -- In an accepted frame the parts lie end to end and fill it, and the bools are within their bounds. The lengths add up to the frame's,
--- and cuts of lengths that add up have those lengths and join to the whole. Assumes nothing.
+-- and cuts of lengths that add up have those lengths and join to the whole.
 use Prim.Native.Nat.{ℕ, zero, suc, _+_, _-_, _*_, _^_, _≤_, _<_}
 use native.Mathlib.Omega.{arith}
 use native.Mathlib.Nat.{pow-le-pow-right}
@@ -17,13 +17,13 @@ use Rattle.vp8_records.specs.declared.Parsed.{Parsed}
 use Rattle.vp8_records.specs.declared.Outcome.the-variants.{Accepted}
 use Rattle.vp8_records.specs.Layout.{joined}
 use Rattle.rfc6386.specs.Decoder.{bits, start}
-use Rattle.rfc6386.specs.Reads.{flag, when, lit}
-use Rattle.rfc6386.specs.Coded.{Coded, segments, deltas, quant, refresh, coefficients, inter, noInter, header}
+use Rattle.rfc6386.specs.Coded.{Coded, header}
 use Rattle.rfc6386.specs.Frame.{Snapshot, codedSizes, sum, sizes, snapshot, decoded}
 use Rattle.rfc6386.specs.Call.{headerOf, call}
 use Rattle.rfc6386.specs.Fills.{lengths, cuts, Fills}
-use Rattle.rfc6386.proofs.Trees.{Always, always-ret, always-bind, always-skip, lit-small}
+use Rattle.rfc6386.proofs.Trees.{Always}
 use Rattle.rfc6386.proofs.Counts.{Counted, key-header, inter-header}
+use Rattle.rfc6386.proofs.Holds.{header-fits}
 use Rattle.rfc6386.proofs.Accepts.{heldBy, accepted}
 
 cuts-are : (ns f : List ℕ) → sum ns ≡ length f → (map length (cuts ns f) ≡ ns) × (joined (λ part. part) (cuts ns f) ≡ f)
@@ -77,13 +77,7 @@ abbrev pub FewParts : Coded → Type 0
 FewParts c = c .log2parts < 4
 
 pub few-parts : (key : Bool) → Always FewParts (header key)
-unfolding header
-few-parts key =
-    always-skip FewParts (when key flag false) _ (λ cs. always-skip FewParts (when key flag false) _ (λ ct. always-skip FewParts segments _ (λ sg.
-    always-skip FewParts flag _ (λ ft. always-skip FewParts (lit 6) _ (λ ll. always-skip FewParts (lit 3) _ (λ sh. always-skip FewParts deltas _ (λ ds.
-    always-bind (λ x. x < 4) FewParts (lit 2) _ (lit-small 2) (λ lp h. always-skip FewParts quant _ (λ q. always-skip FewParts (refresh key) _ (λ rf.
-    always-skip FewParts coefficients _ (λ co. always-skip FewParts flag _ (λ sk. always-skip FewParts (when sk (lit 8) 0) _ (λ sp.
-    always-skip FewParts (when (not key) inter noInter) _ (λ it. always-ret FewParts _ h))))))))))))))
+few-parts key l s = header-fits key l s .log2parts
 
 -- n is 1, 2, 4 or 8
 few-partitions : (x : ℕ) → x < 4 → 2 ^ x ≤ 8

@@ -1,4 +1,4 @@
--- The second step of a call: what a frame's words make of the kept numbers (document 01, "What the parser keeps" and its refusal table).
+-- The second step of a call: what a frame's words make of the kept numbers (docs/RULES.md: what is kept, and the table of refusals).
 use Prim.Native.Nat.{ℕ, _/_, _%_, _^_}
 use mathlib.Core.Bool.{Bool, false}
 use mathlib.Core.Option.{Option, none, some}
