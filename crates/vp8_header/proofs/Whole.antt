@@ -1,4 +1,4 @@
--- The three stages, one after the other, are the definition's header tree: binds are regrouped. Assumes nothing.
+-- The three stages, one after the other, are the definition's header tree: binds are regrouped, field by field.
 use mathlib.Core.Path.{_≡_, _∙_}
 use mathlib.Core.Bool.{Bool, false, not}
 use Rattle.rfc6386.specs.Reads.{ret, _>>=_, flag, when, lit}

@@ -1,4 +1,5 @@
--- A header read to its end, before its partition sizes are known, and the state after it: the definition's, over the bytes that the decoder may read.
+-- A header read to its end, before its partition sizes are known, and the state after it: the definition's, over the bytes that the
+-- decoder may read.
 use Prim.Native.Nat.{ℕ}
 use mathlib.Core.Path.{_≡_}
 use mathlib.Core.List.{List, []}

@@ -1,4 +1,5 @@
--- The definition's header tree, cut in three, with what each stage makes of the old record. proofs/Whole.antt shows that the three are the definition's one.
+-- The definition's header tree, cut in three, with what each stage makes of the old record. proofs/Whole.antt shows that the three are
+-- the definition's one.
 use Prim.Native.Nat.{ℕ}
 use mathlib.Core.Bool.{Bool, false, not}
 use mathlib.Core.Option.{Option}

@@ -21,92 +21,147 @@ ghost use Rattle.bool_decoder.specs.Window.{stateOf, Over};
 ghost use Rattle.vp8_header.specs.Stages.{first, firstOf, refreshOf, second, secondOf, interOf, third, thirdOf, probsIn};
 ghost use Rattle.vp8_header.specs.Headed.{chunkOf, Heads, headedOf};
 
-// The uncompressed chunk. A size code holds 14 bits of size below 2 of scale.
+// The uncompressed chunk (RFC 6386 section 9.1).
 pub struct DataChunk {
+    // Whether it is a key frame's (9.1).
     pub key_frame: bool,
+    // The version, which picks filters (9.1).
     pub version: u8,
+    // Whether the frame is meant to be shown (9.1).
     pub show_frame: bool,
+    // The bytes of the first partition (9.1).
     pub first_part_size: u32,
+    // The bytes of the chunk itself: 10 in a key frame, else 3 (9.1).
     pub data_chunk_size: u8,
+    // The width as it is coded, 14 bits below 2 of scale; 0 in an inter frame (9.1).
     pub width_code: u16,
+    // The height, likewise (9.1).
     pub height_code: u16,
 }
 
-// The header's fields, in the order in which they are read.
+// The header's first fields (RFC 6386 section 19.2); the stages follow the order in which they are read.
 pub struct First {
+    // Whether colours are of a kind left open; a key frame's (9.2).
     pub color_space: bool,
+    // Whether no pixel needs clamping; a key frame's (9.2).
     pub clamping_type: bool,
+    // The segments, as they are kept from here on (9.3).
     pub segmentation: Segmentation,
+    // Whether the loop filter is the simple one (9.4).
     pub filter_type: bool,
+    // The filter's level (9.4).
     pub loop_filter_level: u8,
+    // Its sharpness (9.4).
     pub sharpness_level: u8,
 }
 
+// Which buffers a frame renews, and whether its probabilities are kept (RFC 6386 sections 9.7, 9.8 and 9.11).
 pub struct RefreshFlags {
+    // Whether the frame becomes the golden one (9.7).
     pub refresh_golden_frame: bool,
+    // Whether it becomes the alternate one (9.7).
     pub refresh_alternate_frame: bool,
+    // Which buffer else goes to the golden one: 0 none, 1 the last, 2 the alternate (9.7).
     pub copy_buffer_to_golden: u8,
+    // Which goes to the alternate one: 0 none, 1 the last, 2 the golden (9.7).
     pub copy_buffer_to_alternate: u8,
+    // Whether motion from the golden frame is turned round (9.7).
     pub sign_bias_golden: bool,
+    // Whether that from the alternate frame is (9.7).
     pub sign_bias_alternate: bool,
+    // Whether the probabilities are kept for later frames (9.11, 19.2).
     pub refresh_entropy_probs: bool,
+    // Whether the frame becomes the last one (9.8).
     pub refresh_last: bool,
 }
 
+// The fields from the filter's deltas to the refresh flags (RFC 6386 section 19.2).
 pub struct Second {
+    // The filter's adjustments, as they are kept from here on (9.4).
     pub mb_lf_adjust: MbLfAdjustments,
+    // The number of partitions with coefficients, as a power of two (9.5).
     pub log2_nbr_of_dct_partitions: u8,
+    // The quantizer indices (9.6).
     pub quant_indices: QuantIndices,
+    // The refresh flags (9.7).
     pub refresh: RefreshFlags,
 }
 
+// What an inter frame codes last; a key frame leaves the numbers 0 and the records as they were (RFC 6386 section 19.2).
 pub struct InterFields {
+    // The chance that a macroblock is not predicted from another frame (9.10).
     pub prob_intra: u8,
+    // The chance that it is predicted from the last one (9.10).
     pub prob_last: u8,
+    // The chance that it is from the golden one, and not the alternate (9.10).
     pub prob_golden: u8,
+    // The mode probabilities, with those coded here (16.2).
     pub mode_probs: ModeProbs,
+    // The motion probabilities, with those coded here (17.2).
     pub mv_prob: MvProbs,
 }
 
+// The fields from the coefficient probabilities on (RFC 6386 section 19.2).
 pub struct Third {
+    // The coefficient probabilities, with those coded here (13.4).
     pub coeff_prob: CoeffProbs,
+    // Whether macroblocks without coefficients are told (9.11).
     pub mb_no_coeff_skip: bool,
+    // The chance that a macroblock has some (9.11).
     pub prob_skip_false: u8,
+    // What an inter frame codes last (19.2).
     pub inter: InterFields,
 }
 
-// What was read, and the decoder after it.
+// The first fields, and the decoder after them.
 pub struct FirstRead {
+    // What was read.
     pub first: First,
+    // The decoder after it.
     pub dec: BoolDecoder,
 }
 
+// The refresh flags, and the decoder after them.
 pub struct RefreshRead {
+    // What was read.
     pub refresh: RefreshFlags,
+    // The decoder after it.
     pub dec: BoolDecoder,
 }
 
+// The next fields, and the decoder after them.
 pub struct SecondRead {
+    // What was read.
     pub second: Second,
+    // The decoder after it.
     pub dec: BoolDecoder,
 }
 
+// An inter frame's own fields, and the decoder after them.
 pub struct InterRead {
+    // What was read.
     pub inter: InterFields,
+    // The decoder after it.
     pub dec: BoolDecoder,
 }
 
+// The last fields, and the decoder after them.
 pub struct ThirdRead {
+    // What was read.
     pub third: Third,
+    // The decoder after it.
     pub dec: BoolDecoder,
 }
 
-// A header whose partition sizes are still to come, and the state after it.
+// A header read to its end, and the state after it.
 pub struct Headed {
+    // The header, whose partition sizes are still to come.
     pub header: Header,
+    // What is kept from here on.
     pub parser: Parser,
 }
 
+// From the first flag to the filter's sharpness (RFC 6386 sections 9.2 to 9.4).
 fn parse_first(area: &[u8], dec: BoolDecoder, key: bool, seg: Segmentation) -> FirstRead
     requires { ⌜ Good (now area) dec 111 ⌝ }
     ensures { λ r. ⌜ Ran (make (firstOf seg) (first key)) (now (area .entry)) dec (r .first) (r .dec) 111 ⌝ }
@@ -153,6 +208,7 @@ fn refresh_key(area: &[u8], dec: BoolDecoder) -> RefreshRead
     }
 }
 
+// An inter frame codes which buffers it refreshes (RFC 6386 sections 9.7 and 9.8).
 fn refresh_inter(area: &[u8], dec: BoolDecoder) -> RefreshRead
     requires { ⌜ Good (now area) dec 10 ⌝ }
     ensures { λ r. ⌜ Ran (make refreshOf (refresh false)) (now (area .entry)) dec (r .refresh) (r .dec) 10 ⌝ }
@@ -182,6 +238,7 @@ fn refresh_inter(area: &[u8], dec: BoolDecoder) -> RefreshRead
     }
 }
 
+// The refresh flags of either kind of frame.
 fn parse_refresh(area: &[u8], dec: BoolDecoder, key: bool) -> RefreshRead
     requires { ⌜ Good (now area) dec 10 ⌝ }
     ensures { λ r. ⌜ Ran (make refreshOf (refresh key)) (now (area .entry)) dec (r .refresh) (r .dec) 10 ⌝ }
@@ -193,6 +250,7 @@ fn parse_refresh(area: &[u8], dec: BoolDecoder, key: bool) -> RefreshRead
     }
 }
 
+// From the filter's deltas to the refresh flags (RFC 6386 sections 9.4 to 9.8).
 fn parse_second(area: &[u8], dec: BoolDecoder, key: bool, adj: MbLfAdjustments) -> SecondRead
     requires { ⌜ Good (now area) dec 115 ⌝ }
     ensures { λ r. ⌜ Ran (make (secondOf adj) (second key)) (now (area .entry)) dec (r .second) (r .dec) 115 ⌝ }
@@ -214,6 +272,7 @@ fn parse_second(area: &[u8], dec: BoolDecoder, key: bool, adj: MbLfAdjustments) 
     SecondRead { second, dec: after }
 }
 
+// What an inter frame codes last (RFC 6386 sections 9.10, 16.2 and 17.2).
 fn parse_inter(area: &[u8], dec: BoolDecoder, modes: ModeProbs, mv: MvProbs) -> InterRead
     requires { ⌜ Good (now area) dec 386 ⌝ }
     ensures { λ r. ⌜ Ran (make (interOf modes mv) inter) (now (area .entry)) dec (r .inter) (r .dec) 386 ⌝ }
@@ -244,6 +303,7 @@ fn parse_inter(area: &[u8], dec: BoolDecoder, modes: ModeProbs, mv: MvProbs) -> 
     InterRead { inter, dec: after }
 }
 
+// The same where the frame is one; the records stay where it is not.
 fn parse_inter_if(
     area: &[u8],
     dec: BoolDecoder,
@@ -268,6 +328,7 @@ fn parse_inter_if(
     }
 }
 
+// From the coefficient probabilities on (RFC 6386 sections 13.4 and 9.11).
 fn parse_third(area: &[u8], dec: BoolDecoder, key: bool, parser: Parser) -> ThirdRead
     requires { ⌜ Good (now area) dec 9899 ⌝ }
     ensures { λ r. ⌜ Ran (make (thirdOf (probsOf parser)) (third key)) (now (area .entry)) dec (r .third) (r .dec) 9899 ⌝ }
@@ -403,6 +464,7 @@ fn header_of(
     }
 }
 
+// The whole header over the bytes that the decoder may read (RFC 6386 section 19.2), and the state that it leaves.
 pub fn parse_frame_header(area: &[u8], parser: Parser, chunk: DataChunk) -> Headed
     ensures { λ r. ⌜ r ≡ headedOf (chunkOf chunk) (now (area .entry)) parser ⌝ }
 {

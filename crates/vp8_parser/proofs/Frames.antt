@@ -1,8 +1,7 @@
--- What follows a chunk, put together: the sizes by the code's tests, and the answer by the sizes. Assumes nothing.
+-- What follows a chunk, put together: the sizes by the code's tests, and the answer by the sizes. Each test is known, so it picks.
 use Prim.Native.Nat.{ℕ, _+_, _-_, _*_, _≤_, _<_}
-use native.Mathlib.Omega.{arith}
 use mathlib.Core.Path.{_≡_, refl, sym, ap, _∙_}
-use mathlib.Core.Bool.{Bool, true, false}
+use mathlib.Core.Bool.{Bool, true, false, true≢false, false≢true}
 use mathlib.Core.Option.{Option, none, some}
 use mathlib.Core.List.{List, [], _∷_, _++_}
 use lib.ListN.{length, drop}
@@ -24,7 +23,8 @@ module _ (n : ℕ) (area : List ℕ) (first : ℕ) where
   unfolding sizes
   sizes-unread h = yes-test _ _ (lt-ltb _ _ h)
 
-  pub sizes-beyond : first + 3 * (n - 1) ≤ length area → length area < first + 3 * (n - 1) + sum (codedSizes (n - 1) area first) → sizes n area first ≡ none
+  pub sizes-beyond : first + 3 * (n - 1) ≤ length area
+      → length area < first + 3 * (n - 1) + sum (codedSizes (n - 1) area first) → sizes n area first ≡ none
   unfolding sizes
   sizes-beyond h g = no-test _ _ (le-ltb _ _ h) ∙ yes-test _ _ (lt-ltb _ _ g)
 
@@ -36,12 +36,12 @@ module _ (n : ℕ) (area : List ℕ) (first : ℕ) where
 
 -- sizes that the code found, and sizes that it did not
 pub found : (x : Option (List ℕ)) (r : Sizes) → r ≡ sizesOf x → r .ok ≡ true → (ss : List ℕ) × (x ≡ some ss)
-found none r e h = absurd (let z : false ≡ true = sym (ap (λ (s : Sizes). s .ok) e) ∙ h in let y : _≡_ {A = ℕ} 0 1 = cc in omega arith)
+found none r e h = absurd (false≢true (sym (ap (λ (s : Sizes). s .ok) e) ∙ h))
 found (some ss) r e h = (ss, refl)
 
 pub missing : (x : Option (List ℕ)) (r : Sizes) → r ≡ sizesOf x → r .ok ≡ false → x ≡ none
 missing none r e h = refl
-missing (some ss) r e h = absurd (let z : true ≡ false = sym (ap (λ (s : Sizes). s .ok) e) ∙ h in let y : _≡_ {A = ℕ} 0 1 = cc in omega arith)
+missing (some ss) r e h = absurd (true≢false (sym (ap (λ (s : Sizes). s .ok) e) ∙ h))
 
 -- the header codes 1, 2, 4 or 8 partitions
 pub few : (key : Bool) (bytes : List ℕ) → decoded key bytes .got .log2parts < 4

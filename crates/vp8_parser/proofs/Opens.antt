@@ -1,5 +1,4 @@
 -- The definition's tests of a chunk and of what follows it, each under the facts that code has tested: a test whose answer is known picks.
--- Assumes nothing.
 use Prim.Native.Nat.{ℕ, _+_, _%_, _^_, _≤_, _<_}
 use native.Mathlib.Omega.{arith}
 use mathlib.Core.Path.{_≡_, refl, sym, ap, subst, _∙_}
@@ -65,7 +64,8 @@ pub opened-fits : (f : List ℕ) (k : Chunk) → opened k ≡ chunk f → length
 unfolding chunk
 opened-fits f k = go (leb (2 ^ 28) (length f)) refl _
   where
-    go : (b : Bool) → leb (2 ^ 28) (length f) ≡ b → (x : Opened) → opened k ≡ elim b [ true ↦ shut (FrameTooLong (length f)) | false ↦ x ] → length f < 2 ^ 28
+    go : (b : Bool) → leb (2 ^ 28) (length f) ≡ b → (x : Opened)
+        → opened k ≡ elim b [ true ↦ shut (FrameTooLong (length f)) | false ↦ x ] → length f < 2 ^ 28
     go true e x h = absurd (let z : _≡_ {A = ℕ} 0 1 = cc in omega arith)
     go false e x h = leb-false _ _ e
 

@@ -1,4 +1,4 @@
--- The sizes that are coded, one more at a time, and the array that holds them. By induction on the sizes. Assumes nothing.
+-- The sizes that are coded, one more at a time, and the array that holds them. By induction on the sizes.
 use Prim.Native.Nat.{ℕ, zero, suc, _+_, _*_, _≤_, _<_}
 use native.Mathlib.Nat.{add-zero, mul-suc}
 use native.Mathlib.Numerals.{add-one}

@@ -1,4 +1,4 @@
--- Any two answers that a contract admits are equal: the contracts are equations with the definition. Assumes nothing.
+-- Any two answers that a contract admits are equal: the contracts are equations with the definition.
 use Prim.Native.Nat.{ℕ}
 use mathlib.Core.Path.{_≡_, sym, ap, _∙_}
 use mathlib.Core.Bool.{Bool}

@@ -17,18 +17,25 @@ ghost use Rattle.vp8_parser.specs.Answers.{openedOf, listedOf, sizesOf, 
 
 // What the first bytes of a frame are: a chunk, or a refusal.
 pub enum ChunkAnswer {
+    // Refusal 6, 1 or 2.
     Refused(Outcome),
+    // The chunk (RFC 6386 section 9.1).
     Read(DataChunk),
 }
 
-// The partition sizes, where they end within the area; before that, those that are coded, with their sum.
+// The partition sizes (RFC 6386 section 9.5).
 pub struct Sizes {
+    // Whether they end within the area.
     pub ok: bool,
+    // Them; unused entries are 0.
     pub sizes: [u32; 8],
 }
 
+// The sizes that are coded: all but the last (RFC 6386 section 9.5).
 pub struct Listed {
+    // Them; unused entries are 0.
     pub sizes: [u32; 8],
+    // Their sum.
     pub total: usize,
 }
 
@@ -67,6 +74,7 @@ fn key_chunk(bytes: &[u8]) -> ChunkAnswer
     ChunkAnswer::Read(tagged(tag, true, 10, width, height))
 }
 
+// The chunk, or refusal 6, 1 or 2 (RFC 6386 section 9.1).
 pub fn parse_uncompressed_data_chunk(bytes: &[u8]) -> ChunkAnswer
     ensures { λ r. ⌜ openedOf r ≡ chunk (now (bytes .entry)) ⌝ }
 {
@@ -96,6 +104,7 @@ fn num_dct_partitions(log2: u8) -> usize
     }
 }
 
+// The partitions do not end within the area.
 fn no_sizes() -> Sizes
     ensures { λ r. ⌜ r ≡ sizesOf none ⌝ }
 {
@@ -218,7 +227,7 @@ fn parse_body(parser: Parser, bytes: &[u8], chunk: DataChunk) -> Parsed
     parse_area(from, area, chunk)
 }
 
-// One call: every slice gets an answer.
+// One call: every slice gets an answer, which is the definition's (RFC 6386 section 9).
 pub fn parse(parser: Parser, bytes: &[u8]) -> Parsed
     ensures { λ r. ⌜ r ≡ call parser (now (bytes .entry)) ⌝ }
 {

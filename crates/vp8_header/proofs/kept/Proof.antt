@@ -1,4 +1,4 @@
--- By the flag. Assumes nothing.
+-- By the flag, which picks the probabilities.
 use Rattle.vp8_header.proofs.kept.Statement.{statement}
 use Rattle.vp8_header.proofs.kept.Tie as tie
 

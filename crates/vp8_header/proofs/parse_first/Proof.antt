@@ -1,4 +1,4 @@
--- One read after the other; the segmentation is the definition's written over the old one. Assumes nothing.
+-- One read after the other, chained; the segmentation is the definition's written over the old one.
 use mathlib.Core.Path.{sym}
 use borrow.Author.Needs.{needs}
 use Rattle.bool_decoder.proofs.Chain.{then, done}
@@ -28,18 +28,25 @@ read-byte-requires-2 c κs = search needs
 returns : tie.Need-returns
 unfolding first firstOf
 returns c =
-    let g = made (c .before .before .before .before .before .update-segmentation .ensures) in
+    let at-sharpness = c .before .before in
+    let at-level = at-sharpness .before in
+    let at-type = at-level .before in
+    let at-update = at-type .before in
+    let at-clamping = at-update .before in
+    let at-space = at-clamping .before in
+    let g = made (at-update .update-segmentation .ensures) in
     worth (λ i. record {
-      «color_space» = c .before .before .before .before .before .before .before .flag-if .result .bit;
-      «clamping_type» = c .before .before .before .before .before .before .flag-if2 .result .bit;
+      «color_space» = at-space .flag-if .result .bit;
+      «clamping_type» = at-clamping .flag-if2 .result .bit;
       «segmentation» = sym (g .is) i;
-      «filter_type» = c .before .before .before .before .read-flag .result .bit;
-      «loop_filter_level» = c .before .before .before .read-byte .result .value;
-      «sharpness_level» = c .before .before .read-byte2 .result .value;
+      «filter_type» = at-type .read-flag .result .bit;
+      «loop_filter_level» = at-level .read-byte .result .value;
+      «sharpness_level» = at-sharpness .read-byte2 .result .value;
     })
-    (makes (firstOf (c .before .before .before .before .before .before .before .before .before .args .seg))
-    (then _ (c .before .before .before .before .before .before .before .flag-if .ensures) (then _ (c .before .before .before .before .before .before .flag-if2 .ensures) (then _ (g .ran) (then _ (c .before .before .before .before .read-flag .ensures)
-    (then _ (c .before .before .before .read-byte .ensures .ran) (then _ (c .before .before .read-byte2 .ensures .ran) (done (c .before .before .read-byte2 .ensures .ran .over)))))))))
+    (makes (firstOf (at-space .before .before .args .seg))
+    (then _ (at-space .flag-if .ensures) (then _ (at-clamping .flag-if2 .ensures) (then _ (g .ran) (then _ (at-type .read-flag .ensures)
+    (then _ (at-level .read-byte .ensures .ran) (then _ (at-sharpness .read-byte2 .ensures .ran)
+    (done (at-sharpness .read-byte2 .ensures .ran .over)))))))))
 
 pub parse-first-spec : {M : Type 1} → statement M
 parse-first-spec =

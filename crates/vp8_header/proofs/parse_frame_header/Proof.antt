@@ -1,4 +1,4 @@
--- The three stages one after the other are the definition's tree; `built` puts the answer together. Assumes nothing.
+-- The three stages one after the other are the definition's tree; `built` puts the answer together.
 use denote.Ref.{now}
 use borrow.Author.Needs.{needs}
 use Rattle.bool_decoder.proofs.Chain.{then, done}
@@ -28,13 +28,19 @@ kept-requires c κs = search needs
 
 returns : tie.Need-returns
 returns c =
-    let fresh = c .before .before .before .before .before .before .before .before .before .before .before .before .before .new .ensures in
-    let a = made (c .before .before .before .before .before .before .before .before .before .before .before .parse-first .ensures) in
-    let b = made (c .before .before .before .before .before .before .before .before .before .parse-second .ensures) in
-    let t = made (c .before .before .before .before .before .before .before .before .parse-third .ensures) in
-    let whole = same (stages (c .before .before .before .before .before .before .before .before .before .before .before .before .before .before .before .args .chunk .«key_frame»)) (then _ (a .ran) (then _ (b .ran) (then _ (t .ran) (done (t .ran .over))))) in
-    built (c .before .before .before .before .before .before .before .before .before .before .before .before .before .before .before .args .chunk) (c .before .before .before .before .before .before .before .before .before .before .before .before .before .before .before .args .parser) (now (c .before .before .before .before .before .before .before .before .before .before .before .before .before .before .before .args .area)) (a .value) (b .value) (t .value) _ _ _ _ _ _
-    (a .is) (b .is) (t .is) (rw (fresh .state) at (whole .is)) (c .before .before .before .header-of .ensures) (c .kept .ensures)
+    let at-header = c .before .before .before in
+    let at-third = at-header .before .before .before .before .before in
+    let at-second = at-third .before in
+    let at-first = at-second .before .before in
+    let at-new = at-first .before .before in
+    let given = at-new .before .before .args in
+    let a = made (at-first .parse-first .ensures) in
+    let b = made (at-second .parse-second .ensures) in
+    let t = made (at-third .parse-third .ensures) in
+    let reads = then _ (a .ran) (then _ (b .ran) (then _ (t .ran) (done (t .ran .over)))) in
+    let whole = same (stages (given .chunk .«key_frame»)) reads in
+    built (given .chunk) (given .parser) (now (given .area)) (a .value) (b .value) (t .value) _ _ _ _ _ _
+    (a .is) (b .is) (t .is) (rw (at-new .new .ensures .state) at (whole .is)) (at-header .header-of .ensures) (c .kept .ensures)
 
 pub parse-frame-header-spec : {M : Type 1} → statement M
 parse-frame-header-spec =

@@ -1,4 +1,4 @@
--- One read after the other; the probabilities are the definition's written over the old ones. Assumes nothing.
+-- One read after the other, chained; the probabilities are the definition's written over the old ones.
 use mathlib.Core.Path.{sym}
 use borrow.Author.Needs.{needs}
 use Rattle.rfc6386.specs.Coded.{inter}
@@ -30,19 +30,26 @@ parse-mv-prob-update-requires c κs = search needs
 returns : tie.Need-returns
 unfolding inter interOf modesOver
 returns c =
-    let y = made (c .before .before .before .before .before .before .before .parse-intra-16x16-prob-update .ensures) in
-    let u = made (c .before .before .before .before .before .parse-intra-chroma-prob-update .ensures) in
-    let v = made (c .before .before .before .before .parse-mv-prob-update .ensures) in
+    let at-motion = c .before .before .before .before in
+    let at-chroma = at-motion .before in
+    let at-luma = at-chroma .before .before in
+    let at-golden = at-luma .before .before in
+    let at-last = at-golden .before in
+    let at-intra = at-last .before in
+    let kept = at-intra .before .before .args in
+    let y = made (at-luma .parse-intra-16x16-prob-update .ensures) in
+    let u = made (at-chroma .parse-intra-chroma-prob-update .ensures) in
+    let v = made (at-motion .parse-mv-prob-update .ensures) in
     worth (λ i. record {
-      «prob_intra» = c .before .before .before .before .before .before .before .before .before .before .before .read-byte .result .value;
-      «prob_last» = c .before .before .before .before .before .before .before .before .before .before .read-byte2 .result .value;
-      «prob_golden» = c .before .before .before .before .before .before .before .before .before .read-byte3 .result .value;
+      «prob_intra» = at-intra .read-byte .result .value;
+      «prob_last» = at-last .read-byte2 .result .value;
+      «prob_golden» = at-golden .read-byte3 .result .value;
       «mode_probs» = record { «intra_16x16_prob» = sym (y .is) i; «intra_chroma_prob» = sym (u .is) i };
       «mv_prob» = sym (v .is) i;
     })
-    (makes (interOf (c .before .before .before .before .before .before .before .before .before .before .before .before .before .args .modes) (c .before .before .before .before .before .before .before .before .before .before .before .before .before .args .mv))
-    (then _ (c .before .before .before .before .before .before .before .before .before .before .before .read-byte .ensures .ran) (then _ (c .before .before .before .before .before .before .before .before .before .before .read-byte2 .ensures .ran) (then _ (c .before .before .before .before .before .before .before .before .before .read-byte3 .ensures .ran) (then _ (y .ran)
-    (then _ (u .ran) (then _ (v .ran) (done (v .ran .over)))))))))
+    (makes (interOf (kept .modes) (kept .mv))
+    (then _ (at-intra .read-byte .ensures .ran) (then _ (at-last .read-byte2 .ensures .ran) (then _ (at-golden .read-byte3 .ensures .ran)
+    (then _ (y .ran) (then _ (u .ran) (then _ (v .ran) (done (v .ran .over)))))))))
 
 pub parse-inter-spec : {M : Type 1} → statement M
 parse-inter-spec =

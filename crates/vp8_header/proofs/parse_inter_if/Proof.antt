@@ -1,4 +1,4 @@
--- The reads under a flag; with nothing coded the records stay, since a record is its own numbers laid out again. Assumes nothing.
+-- The reads under a flag; with nothing coded the records stay, since a record is its own numbers laid out again.
 use native.Mathlib.Omega.{arith}
 use mathlib.Core.Path.{_≡_, sym, ap, _∙_}
 use mathlib.Core.List.{List, [], append-nil}
@@ -25,8 +25,10 @@ stays r h = ap (λ (xs : List ℕ). laidMv xs) (sym (append-nil (flatMv r))) ∙
 
 sized : (c : tie.Start) → SizedMv (c .args .mv)
 sized c =
-    let g = c .good .1 .1 .1 .1 .0 .1 .1 .0 in
-    (search (needs, length-mapped), every-of _ _ _ SizedMvContext (λ x u h. search (needs, length-mapped)) (c .args .mv .v) (g .0) (g .1 .1))
+    let g = c .good .1 .1 .1 .1 .0 .1 .1 .0 in (
+      search (needs, length-mapped),
+      every-of _ _ _ SizedMvContext (λ x u h. search (needs, length-mapped)) (c .args .mv .v) (g .0) (g .1 .1),
+    )
 
 parse-inter-requires : tie.Need-parse-inter-requires
 parse-inter-requires c κs = search needs

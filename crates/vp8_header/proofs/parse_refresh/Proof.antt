@@ -1,4 +1,4 @@
--- By the kind of frame. Assumes nothing.
+-- By the kind of frame; a key frame reads fewer bools than the bound.
 use native.Mathlib.Omega.{arith}
 use borrow.Author.Needs.{needs}
 use Rattle.bool_decoder.proofs.Chain.{upto}

@@ -1,4 +1,4 @@
--- One read after the other; the adjustments are the definition's written over the old ones. Assumes nothing.
+-- One read after the other, chained; the adjustments are the definition's written over the old ones.
 use mathlib.Core.Path.{sym}
 use borrow.Author.Needs.{needs}
 use Rattle.bool_decoder.proofs.Chain.{then, done}
@@ -22,16 +22,21 @@ parse-refresh-requires c κs = search needs
 returns : tie.Need-returns
 unfolding second secondOf
 returns c =
-    let a = made (c .before .before .before .before .before .before .before .parse-mb-lf-adjustments .ensures) in
-    let f = made (c .before .before .before .before .parse-refresh .ensures) in
+    let at-refresh = c .before .before .before .before in
+    let at-quant = at-refresh .before in
+    let at-log2 = at-quant .before in
+    let at-deltas = at-log2 .before in
+    let a = made (at-deltas .parse-mb-lf-adjustments .ensures) in
+    let f = made (at-refresh .parse-refresh .ensures) in
     worth (λ i. record {
       «mb_lf_adjust» = sym (a .is) i;
-      «log2_nbr_of_dct_partitions» = c .before .before .before .before .before .before .read-byte .result .value;
-      «quant_indices» = c .before .before .before .before .before .parse-quant-indices .result .«quant_indices»;
+      «log2_nbr_of_dct_partitions» = at-log2 .read-byte .result .value;
+      «quant_indices» = at-quant .parse-quant-indices .result .«quant_indices»;
       «refresh» = sym (f .is) i;
     })
-    (makes (secondOf (c .before .before .before .before .before .before .before .before .before .args .adj))
-    (then _ (a .ran) (then _ (c .before .before .before .before .before .before .read-byte .ensures .ran) (then _ (c .before .before .before .before .before .parse-quant-indices .ensures) (then _ (f .ran) (done (f .ran .over)))))))
+    (makes (secondOf (at-deltas .before .before .args .adj))
+    (then _ (a .ran) (then _ (at-log2 .read-byte .ensures .ran) (then _ (at-quant .parse-quant-indices .ensures)
+    (then _ (f .ran) (done (f .ran .over)))))))
 
 pub parse-second-spec : {M : Type 1} → statement M
 parse-second-spec =

@@ -1,4 +1,4 @@
--- One read after the other; the probabilities are the definition's written over the old ones. Assumes nothing.
+-- One read after the other, chained; the probabilities are the definition's written over the old ones.
 use mathlib.Core.Path.{sym}
 use borrow.Author.Needs.{needs}
 use Rattle.rfc6386.specs.Call.{probsOf}
@@ -23,16 +23,22 @@ parse-inter-if-requires c κs = search needs
 returns : tie.Need-returns
 unfolding third thirdOf
 returns c =
-    let t = made (c .before .before .before .before .before .before .parse-token-prob-update .ensures) in
-    let n = made (c .before .before .before .parse-inter-if .ensures) in
+    let at-inter = c .before .before .before in
+    let at-skip-prob = at-inter .before in
+    let at-skip = at-skip-prob .before in
+    let at-tokens = at-skip .before in
+    let at-start = at-tokens .before .before .before .before .before in
+    let t = made (at-tokens .parse-token-prob-update .ensures) in
+    let n = made (at-inter .parse-inter-if .ensures) in
     worth (λ i. record {
       «coeff_prob» = sym (t .is) i;
-      «mb_no_coeff_skip» = c .before .before .before .before .before .read-flag .result .bit;
-      «prob_skip_false» = c .before .before .before .before .byte-if .result .value;
+      «mb_no_coeff_skip» = at-skip .read-flag .result .bit;
+      «prob_skip_false» = at-skip-prob .byte-if .result .value;
       «inter» = sym (n .is) i;
     })
-    (makes (thirdOf (probsOf (c .before .before .before .before .before .before .before .before .before .before .before .args .parser)))
-    (then _ (t .ran) (then _ (c .before .before .before .before .before .read-flag .ensures) (then _ (c .before .before .before .before .byte-if .ensures) (then _ (n .ran) (done (n .ran .over)))))))
+    (makes (thirdOf (probsOf (at-start .args .parser)))
+    (then _ (t .ran) (then _ (at-skip .read-flag .ensures) (then _ (at-skip-prob .byte-if .ensures)
+    (then _ (n .ran) (done (n .ran .over)))))))
 
 pub parse-third-spec : {M : Type 1} → statement M
 parse-third-spec =

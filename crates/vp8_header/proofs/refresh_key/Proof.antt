@@ -1,4 +1,4 @@
--- One flag. Assumes nothing.
+-- One read, chained with what is made of it.
 use borrow.Author.Needs.{needs}
 use Rattle.rfc6386.specs.Coded.{refresh}
 use Rattle.bool_decoder.proofs.Chain.{then, done}

@@ -1,4 +1,4 @@
--- The two flags. Assumes nothing.
+-- The record with two flags false is the definition's, by computing.
 use mathlib.Core.Path.{refl}
 use Rattle.rfc6386.specs.Call.{cleared}
 use Rattle.vp8_parser.proofs.clear_updates.Statement.{statement}

@@ -1,4 +1,4 @@
--- The loop lists one size more at each turn: `coded-more`, `padded-more` and `sum-more`. Assumes nothing.
+-- The loop lists one size more at each turn: `coded-more`, `padded-more` and `sum-more`.
 use Prim.Native.Nat.{ℕ, _+_, _*_, _-_, _^_, _≤_}
 use native.Mathlib.Omega.{arith}
 use mathlib.Core.Path.{_≡_, refl, ap, sym, _∙_}
@@ -14,7 +14,8 @@ use Rattle.vp8_parser.proofs.coded_sizes.Statement.{statement}
 use Rattle.vp8_parser.proofs.coded_sizes.Tie as tie
 
 abbrev Inv-loop : tie.InvT-loop
-Inv-loop area start count sizes₀ total₀ i₀ sizes total i = (i ≤ count) × (sizes ≡ padded (codedSizes i area start)) × (total ≡ sum (codedSizes i area start)) × (total ≤ i * 2 ^ 32)
+Inv-loop area start count sizes₀ total₀ i₀ sizes total i =
+    (i ≤ count) × (sizes ≡ padded (codedSizes i area start)) × (total ≡ sum (codedSizes i area start)) × (total ≤ i * 2 ^ 32)
 
 abbrev μ-loop : tie.MeasureT-loop
 μ-loop area start count sizes₀ total₀ i₀ sizes total i = count - i
@@ -59,8 +60,8 @@ loop-again c =
     let more : codedSizes (l .i + 1) (now (a .area)) (a .start) ≡ xs ++ (x ∷ []) =
     coded-more (l .i) (now (a .area)) (a .start) ∙ ap (λ (y : ℕ). xs ++ (y ∷ [])) (sym (c .read-le3 .ensures)) in (
       omega arith,
-      ap (λ (ys : List ℕ). set ys (l .i) x) (l .inv .1) ∙ padded-more xs (l .i) x (length-coded (l .i) (now (a .area)) (a .start)) (omega arith)
-          ∙ ap padded (sym more),
+      ap (λ (ys : List ℕ). set ys (l .i) x) (l .inv .1)
+          ∙ padded-more xs (l .i) x (length-coded (l .i) (now (a .area)) (a .start)) (omega arith) ∙ ap padded (sym more),
       omega (arith, l .inv .2, sum-more xs x, ap sum more),
       omega (arith, l .inv .3, c .read-le3 .ok),
     )

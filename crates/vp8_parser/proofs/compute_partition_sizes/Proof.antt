@@ -1,4 +1,4 @@
--- Each test answers the definition's; the last size goes behind those that are coded. Assumes nothing.
+-- Each test answers the definition's (Frames); the last size goes behind those that are coded (Partitions).
 use Prim.Native.Nat.{ℕ, _+_, _*_, _-_}
 use native.Mathlib.Omega.{arith}
 use mathlib.Core.Path.{_≡_, ap, sym, _∙_}
@@ -49,11 +49,15 @@ no-sizes-requires-2 c κs = search needs
 
 returns-2 : tie.Need-returns-2
 returns-2 c =
-    let a = c .before .before .before .before .before .before .before .args in
-    let n = c .before .before .before .before .before .num-dct-partitions .ensures in
-    let total = ap (λ (x : Listed). x .total) (c .before .before .before .coded-sizes .ensures) in
-    let e = sizes-beyond (c .before .before .before .before .before .num-dct-partitions .result) (now (a .area)) (a .first) (c .before .before .before .before .if1 .left) (omega (arith, total, c .before .if2 .taken, c .before .before .before .before .if1 .left)) in
-    c .no-sizes2 .ensures ∙ ap sizesOf (sym (rw (n .0) at e))
+    let at-coded = c .before .before .before in
+    let at-fits = at-coded .before in
+    let at-count = at-fits .before in
+    let a = at-count .before .before .args in
+    let n = at-count .num-dct-partitions in
+    let fits = at-fits .if1 .left in
+    let total = ap (λ (x : Listed). x .total) (at-coded .coded-sizes .ensures) in
+    let e = sizes-beyond (n .result) (now (a .area)) (a .first) fits (omega (arith, total, c .before .if2 .taken, fits)) in
+    c .no-sizes2 .ensures ∙ ap sizesOf (sym (rw (n .ensures .0) at e))
 
 sub-sizes : tie.Need-sub-sizes
 sub-sizes c = search needs
@@ -72,20 +76,25 @@ array-write-sizes c = search needs
 
 returns-3 : tie.Need-returns-3
 returns-3 c =
-    let a = c .before .before .before .before .before .before .before .before .args in
-    let n : ℕ = c .before .before .before .before .before .before .num-dct-partitions .result in
-    let eight = c .before .before .before .before .before .before .num-dct-partitions .ensures in
-    let coded = c .before .before .before .before .coded-sizes .ensures in
+    let at-coded = c .before .before .before .before in
+    let at-fits = at-coded .before in
+    let at-count = at-fits .before in
+    let a = at-count .before .before .args in
+    let n : ℕ = at-count .num-dct-partitions .result in
+    let eight = at-count .num-dct-partitions .ensures in
+    let fits = at-fits .if1 .left in
+    let coded = at-coded .coded-sizes .ensures in
+    let listed : ℕ = at-coded .coded-sizes .result .total in
     let area : List ℕ = now (a .area) in
     let xs : List ℕ = codedSizes (n - 1) area (a .first) in
     let from : ℕ = a .first + 3 * (n - 1) in
-    let total : c .before .before .before .before .coded-sizes .result .total ≡ sum xs = ap (λ (x : Listed). x .total) coded in
-    let whole = sizes-are n area (a .first) (c .before .before .before .before .before .if1 .left) (omega (arith, total, c .before .before .if2 .left, c .before .before .before .before .before .if1 .left)) in
-    let last : length area - from - c .before .before .before .before .coded-sizes .result .total ≡ length area - (from + sum xs) = omega (arith, total) in
+    let total : listed ≡ sum xs = ap (λ (x : Listed). x .total) coded in
+    let whole = sizes-are n area (a .first) fits (omega (arith, total, c .before .before .if2 .left, fits)) in
+    let last : length area - from - listed ≡ length area - (from + sum xs) = omega (arith, total) in
     (λ i. record {
       ok = true;
       sizes =
-          (ap (λ (x : Listed). set (x .sizes) (n - 1) (length area - from - c .before .before .before .before .coded-sizes .result .total)) coded
+          (ap (λ (x : Listed). set (x .sizes) (n - 1) (length area - from - listed)) coded
           ∙ padded-more xs (n - 1) _ (length-coded (n - 1) area (a .first)) (omega (arith, eight .1, eight .2))
           ∙ ap (λ (x : ℕ). padded (xs ++ (x ∷ []))) last) i;
     })

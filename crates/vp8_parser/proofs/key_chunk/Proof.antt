@@ -1,4 +1,4 @@
--- Each test answers the definition's; two bytes are below 65,536. Assumes nothing.
+-- Each test answers the definition's, so each answer is one law of Opens; two bytes are below 65,536.
 use native.Mathlib.Omega.{arith}
 use mathlib.Core.Path.{ap, _∙_}
 use borrow.Author.Needs.{needs}
@@ -17,7 +17,9 @@ returns-2 : tie.Need-returns-2
 returns-2 c = key-other _ _ (c .before .before .if1 .left) (c .before .read-le3 .ensures) (c .if2 .taken)
 
 returns-3 : tie.Need-returns-3
-returns-3 c = key-cut _ _ (c .before .before .before .if1 .left) (c .before .before .read-le3 .ensures) (c .before .if2 .left) (c .if3 .taken)
+returns-3 c =
+    let at-code = c .before .before in
+    key-cut _ _ (at-code .before .if1 .left) (at-code .read-le3 .ensures) (c .before .if2 .left) (c .if3 .taken)
 
 read-le3-requires-2 : tie.Need-read-le3-requires-2
 read-le3-requires-2 c κs = search needs
@@ -43,8 +45,14 @@ tagged-requires c κs = search needs
 
 returns-4 : tie.Need-returns-4
 returns-4 c =
+    let at-height = c .before in
+    let at-width = at-height .before in
+    let at-tag = at-width .before in
+    let at-ten = at-tag .before in
+    let at-code = at-ten .before .before in
     ap opened (c .tagged .ensures)
-    ∙ key-whole _ _ _ _ _ (c .before .before .before .before .before .before .read-le3 .ensures) (c .before .before .before .before .before .if2 .left) (c .before .before .before .before .if3 .left) (c .before .before .before .read-le32 .ensures) (c .before .before .read-le2 .ensures) (c .before .read-le22 .ensures)
+    ∙ key-whole _ _ _ _ _ (at-code .read-le3 .ensures) (at-ten .before .if2 .left) (at-ten .if3 .left) (at-tag .read-le32 .ensures)
+    (at-width .read-le2 .ensures) (at-height .read-le22 .ensures)
 
 pub key-chunk-spec : {M : Type 1} → statement M
 key-chunk-spec =

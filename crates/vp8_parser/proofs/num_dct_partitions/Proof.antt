@@ -1,4 +1,4 @@
--- By the number. Assumes nothing.
+-- By the number, which is below 4.
 use native.Mathlib.Omega.{arith}
 use mathlib.Core.Path.{_≡_, refl}
 use Rattle.vp8_parser.proofs.num_dct_partitions.Statement.{statement}

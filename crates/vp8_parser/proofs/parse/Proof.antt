@@ -1,4 +1,4 @@
--- By what the first bytes are. Assumes nothing.
+-- By what the first bytes are: a refusal, or a chunk, which the definition's call goes by too.
 use mathlib.Core.Path.{ap, _∙_}
 use denote.Ref.{now}
 use borrow.Author.Needs.{needs}
@@ -21,21 +21,27 @@ enum-known-opened-2 : tie.Need-enum-known-opened-2
 enum-known-opened-2 c = search needs
 
 parse-body-requires : tie.Need-parse-body-requires
-parse-body-requires c κs = opened-fits _ _ (rw (c .before .opened2 .given .1) at (c .before .before .before .parse-uncompressed-data-chunk .ensures))
+parse-body-requires c κs =
+    let at-chunk = c .before .before .before in
+    opened-fits _ _ (rw (c .before .opened2 .given .1) at (at-chunk .parse-uncompressed-data-chunk .ensures))
 
 returns : tie.Need-returns
 unfolding call decode
 returns c =
-    let a = c .before .before .before .before .before .before .args in
+    let at-chunk = c .before .before .before .before in
+    let a = at-chunk .before .before .args in
     c .refused .ensures
-    ∙ ap (λ (x : Opened). finish (inside x (now (a .bytes))) (a .parser)) (rw (c .before .before .opened .given .1) at (c .before .before .before .before .parse-uncompressed-data-chunk .ensures))
+    ∙ ap (λ (x : Opened). finish (inside x (now (a .bytes))) (a .parser))
+    (rw (c .before .before .opened .given .1) at (at-chunk .parse-uncompressed-data-chunk .ensures))
 
 returns-2 : tie.Need-returns-2
 unfolding call decode
 returns-2 c =
-    let a = c .before .before .before .before .before .before .args in
+    let at-chunk = c .before .before .before .before in
+    let a = at-chunk .before .before .args in
     c .parse-body .ensures
-    ∙ ap (λ (x : Opened). finish (inside x (now (a .bytes))) (a .parser)) (rw (c .before .before .opened2 .given .1) at (c .before .before .before .before .parse-uncompressed-data-chunk .ensures))
+    ∙ ap (λ (x : Opened). finish (inside x (now (a .bytes))) (a .parser))
+    (rw (c .before .before .opened2 .given .1) at (at-chunk .parse-uncompressed-data-chunk .ensures))
 
 pub parse-spec : {M : Type 1} → statement M
 parse-spec =

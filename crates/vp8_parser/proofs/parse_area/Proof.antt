@@ -1,4 +1,4 @@
--- The header and the sizes are the definition's; the answer goes by the sizes. Assumes nothing.
+-- The header and the sizes are the definition's; the answer goes by whether there are sizes.
 use Prim.Native.Nat.{ℕ, _^_}
 use mathlib.Core.Path.{_≡_, ap, _∙_}
 use mathlib.Core.Option.{Option}
@@ -6,9 +6,11 @@ use mathlib.Core.List.{List}
 use denote.Ref.{now}
 use borrow.Author.Needs.{needs}
 use Rattle.vp8_records.specs.declared.Outcome.the-variants.{EndOfHeader}
+use Rattle.vp8_records.specs.declared.Parser.{Parser}
 use Rattle.vp8_records.specs.Start.{blank}
 use Rattle.rfc6386.specs.Frame.{sizes}
 use Rattle.rfc6386.specs.Call.{headerOf, answer}
+use Rattle.vp8_header.specs.declared.DataChunk.{DataChunk}
 use Rattle.vp8_header.specs.declared.Headed.{Headed}
 use Rattle.vp8_header.specs.Headed.{chunkOf, headedOf}
 use Rattle.vp8_parser.specs.Answers.{sizesOf, sizedOf}
@@ -22,30 +24,38 @@ parse-frame-header-requires c κs = search needs
 compute-partition-sizes-requires : tie.Need-compute-partition-sizes-requires
 unfolding headedOf headerOf
 compute-partition-sizes-requires c κs =
-    let a = c .before .before .before .before .args in
-    (rw (c .before .before .parse-frame-header .ensures) (few (a .chunk .«key_frame») (now (a .area))), c .before .before .before .before .pre)
+    let at-header = c .before .before in
+    let start = at-header .before .before in
+    (rw (at-header .parse-frame-header .ensures) (few (start .args .chunk .«key_frame») (now (start .args .area))), start .pre)
 
 refused-requires : tie.Need-refused-requires
 refused-requires c κs = search needs
 
+-- the definition's sizes, by the header that was read
+abbrev partsOf : DataChunk → List ℕ → Parser → Option (List ℕ)
+partsOf k area p = sizes (2 ^ headedOf (chunkOf k) area p .header .«log2_nbr_of_dct_partitions») area (k .«first_part_size»)
+
 returns : tie.Need-returns
 unfolding headedOf headerOf sizedOf
 returns c =
-    let a = c .before .before .before .before .before .before .before .args in
-    let h = c .before .before .before .before .before .parse-frame-header .ensures in
-    let q : Option (List ℕ) = sizes (2 ^ headedOf (chunkOf (a .chunk)) (now (a .area)) (a .parser) .header .«log2_nbr_of_dct_partitions») (now (a .area)) (a .chunk .«first_part_size») in
-    let r : c .before .before .compute-partition-sizes .result ≡ sizesOf q = rw h at (c .before .before .compute-partition-sizes .ensures) in
-    let x = found q (c .before .before .compute-partition-sizes .result) r (c .before .if1 .taken) in
-    rw (h, r, x .1)
+    let at-sizes = c .before .before in
+    let at-header = at-sizes .before .before .before in
+    let a = at-header .before .before .args in
+    let h = at-header .parse-frame-header .ensures in
+    let q : Option (List ℕ) = partsOf (a .chunk) (now (a .area)) (a .parser) in
+    let r : at-sizes .compute-partition-sizes .result ≡ sizesOf q = rw h at (at-sizes .compute-partition-sizes .ensures) in
+    rw (h, r, found q (at-sizes .compute-partition-sizes .result) r (c .before .if1 .taken) .1)
 
 returns-2 : tie.Need-returns-2
 unfolding headedOf headerOf sizedOf
 returns-2 c =
-    let a = c .before .before .before .before .before .before .before .args in
-    let h = c .before .before .before .before .before .parse-frame-header .ensures in
-    let q : Option (List ℕ) = sizes (2 ^ headedOf (chunkOf (a .chunk)) (now (a .area)) (a .parser) .header .«log2_nbr_of_dct_partitions») (now (a .area)) (a .chunk .«first_part_size») in
-    let r : c .before .before .compute-partition-sizes .result ≡ sizesOf q = rw h at (c .before .before .compute-partition-sizes .ensures) in
-    let x = missing q (c .before .before .compute-partition-sizes .result) r (c .before .if1 .left) in
+    let at-sizes = c .before .before in
+    let at-header = at-sizes .before .before .before in
+    let a = at-header .before .before .args in
+    let h = at-header .parse-frame-header .ensures in
+    let q : Option (List ℕ) = partsOf (a .chunk) (now (a .area)) (a .parser) in
+    let r : at-sizes .compute-partition-sizes .result ≡ sizesOf q = rw h at (at-sizes .compute-partition-sizes .ensures) in
+    let x = missing q (at-sizes .compute-partition-sizes .result) r (c .before .if1 .left) in
     c .refused .ensures ∙ ap (λ (y : Headed). answer EndOfHeader blank (y .parser)) h ∙ rw x
 
 pub parse-area-spec : {M : Type 1} → statement M

@@ -1,4 +1,4 @@
--- Each test answers the definition's. Assumes nothing.
+-- Each test answers the definition's, and each end is one law of Frames over the state that the frame starts from.
 use Prim.Native.Nat.{ℕ, _-_}
 use native.Mathlib.Omega.{arith}
 use mathlib.Core.Path.{_≡_, ap, _∙_}
@@ -48,22 +48,30 @@ refused-requires-2 c κs = search needs
 
 returns-2 : tie.Need-returns-2
 returns-2 c =
-    let a = c .before .before .before .before .before .before .before .before .before .args in
-    let e : length (drop (a .chunk .«data_chunk_size») (now (a .bytes))) ≡ 0 = omega (arith, length-drop (a .chunk .«data_chunk_size») (now (a .bytes)), c .before .before .if2 .taken) in
-    c .refused2 .ensures ∙ rw (c .before .clear-updates .ensures, c .before .before .before .before .before .base-of .ensures) (ends-empty _ _ _ (c .before .before .before .before .if1 .left) e)
+    let at-empty = c .before .before in
+    let at-fits = at-empty .before .before in
+    let at-base = at-fits .before in
+    let a = at-base .before .before .before .before .args in
+    let at : ℕ = a .chunk .«data_chunk_size» in
+    let e : length (drop at (now (a .bytes))) ≡ 0 = omega (arith, length-drop at (now (a .bytes)), at-empty .if2 .taken) in
+    c .refused2 .ensures
+    ∙ rw (c .before .clear-updates .ensures, at-base .base-of .ensures) (ends-empty _ _ _ (at-fits .if1 .left) e)
 
 parse-area-requires : tie.Need-parse-area-requires
 parse-area-requires c κs = search needs
 
 returns-3 : tie.Need-returns-3
 returns-3 c =
-    let a = c .before .before .before .before .before .before .before .before .args in
+    let at-fits = c .before .before .before in
+    let at-base = at-fits .before in
+    let a = at-base .before .before .before .before .args in
     let at : ℕ = a .chunk .«data_chunk_size» in
     let f : List ℕ = now (a .bytes) in
     let size : length (drop at f) ≡ length f - at = length-drop at f in
     let rest : take (length f - at) (drop at f) ≡ drop at f = take-all (length f - at) (drop at f) (omega (arith, size)) in
-    c .parse-area .ensures ∙ ap (λ (area : List ℕ). sizedOf (chunkOf (a .chunk)) area (c .before .before .before .before .base-of .result)) rest
-    ∙ rw (c .before .before .before .before .base-of .ensures) (ends-read (chunkOf (a .chunk)) (a .parser) f (c .before .before .before .if1 .left) (λ e. c .before .if2 .left (omega (arith, size, e))))
+    c .parse-area .ensures ∙ ap (λ (area : List ℕ). sizedOf (chunkOf (a .chunk)) area (at-base .base-of .result)) rest
+    ∙ rw (at-base .base-of .ensures)
+    (ends-read (chunkOf (a .chunk)) (a .parser) f (at-fits .if1 .left) (λ e. c .before .if2 .left (omega (arith, size, e))))
 
 pub parse-body-spec : {M : Type 1} → statement M
 parse-body-spec =

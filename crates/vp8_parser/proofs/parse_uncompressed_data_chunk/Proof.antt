@@ -1,4 +1,4 @@
--- Each test answers the definition's. Assumes nothing.
+-- Each test answers the definition's, so each answer is one law of Opens.
 use Prim.Native.Nat.{ℕ}
 use mathlib.Core.Path.{ap, _∙_}
 use mathlib.Core.Bool.{false}
@@ -21,15 +21,21 @@ key-chunk-requires : tie.Need-key-chunk-requires
 key-chunk-requires c κs = search needs
 
 returns-3 : tie.Need-returns-3
-returns-3 c = c .key-chunk .ensures ∙ chunk-key _ (c .before .before .before .before .if1 .left) (c .before .before .before .if2 .left) (rw (c .before .before .read-le3 .ensures) at (c .before .if3 .taken))
+returns-3 c =
+    let at-tag = c .before .before in
+    c .key-chunk .ensures
+    ∙ chunk-key _ (at-tag .before .before .if1 .left) (at-tag .before .if2 .left)
+    (rw (at-tag .read-le3 .ensures) at (c .before .if3 .taken))
 
 tagged-requires : tie.Need-tagged-requires
 tagged-requires c κs = search needs
 
 returns-4 : tie.Need-returns-4
 returns-4 c =
-    ap opened (c .tagged .ensures) ∙ ap (λ (tag : ℕ). opened (tagged tag false 3 0 0)) (c .before .before .read-le3 .ensures)
-    ∙ chunk-inter _ (c .before .before .before .before .if1 .left) (c .before .before .before .if2 .left) (rw (c .before .before .read-le3 .ensures) at (c .before .if3 .left))
+    let at-tag = c .before .before in
+    ap opened (c .tagged .ensures) ∙ ap (λ (tag : ℕ). opened (tagged tag false 3 0 0)) (at-tag .read-le3 .ensures)
+    ∙ chunk-inter _ (at-tag .before .before .if1 .left) (at-tag .before .if2 .left)
+    (rw (at-tag .read-le3 .ensures) at (c .before .if3 .left))
 
 pub parse-uncompressed-data-chunk-spec : {M : Type 1} → statement M
 parse-uncompressed-data-chunk-spec =

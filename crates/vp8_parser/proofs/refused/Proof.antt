@@ -1,4 +1,4 @@
--- The blank header. Assumes nothing.
+-- The header is the blank one, by its contract.
 use borrow.Author.Needs.{needs}
 use Rattle.vp8_parser.proofs.refused.Statement.{statement}
 use Rattle.vp8_parser.proofs.refused.Tie as tie
