@@ -1,4 +1,4 @@
--- Field by field; the position and the snapshot are the definition's. Assumes nothing.
+-- Field by field; the position, the snapshot and the count are the definition's.
 use borrow.Author.Needs.{needs}
 use Rattle.rfc6386.specs.Frame.{snapshot}
 use Rattle.vp8_header.specs.Stages.{headerFrom}
@@ -14,6 +14,9 @@ pos-requires c κs = search needs
 snapshot-requires : tie.Need-snapshot-requires
 snapshot-requires c κs = search needs
 
+bools-requires : tie.Need-bools-requires
+bools-requires c κs = search needs
+
 cast-t19 : tie.Need-cast-t19
 cast-t19 c = search needs
 
@@ -23,8 +26,10 @@ cast-t21 c = search needs
 returns : tie.Need-returns
 unfolding headerFrom snapshot
 returns c =
-    let s = c .before .before .snapshot .ensures in
-    rw (c .before .before .before .before .mode-probs-init-defaults .ensures, c .before .before .before .pos .ensures, s .range, s .value, s .count)
+    let at-bools = c .before .before in
+    let s = at-bools .before .snapshot .ensures in
+    let pos = at-bools .before .before .pos .ensures in
+    rw (at-bools .before .before .before .mode-probs-init-defaults .ensures, pos, s .range, s .value, s .count, at-bools .bools .ensures)
 
 pub header-of-spec : {M : Type 1} → statement M
 header-of-spec =
@@ -33,6 +38,7 @@ header-of-spec =
     mode-probs-init-defaults-requires
     pos-requires
     snapshot-requires
+    bools-requires
     cast-t19
     cast-t21
     returns)
