@@ -1,5 +1,5 @@
 -- Laws of a text that grows: a byte is put or has no room, pieces one after the other are one piece, a loop over a piece puts one byte
--- a turn; and where the text fits, it is the old text and the piece. Assumes nothing.
+-- a turn; and where the text fits, it is the old text and the piece. By induction on the piece.
 use Prim.Native.Nat.{ℕ, suc, _+_, _/_, _%_, _≤_, _<_}
 use native.Mathlib.Omega.{arith}
 use native.Mathlib.Nat.{add-zero}
@@ -9,8 +9,8 @@ use mathlib.Core.List.{List, [], _∷_, _++_, append-nil}
 use lib.ListN.{length, getD, take, set, length-set}
 use lib.Seq.{take-suc, take-suc-set, append-snoc}
 use borrow.Author.Tests.{lt-ltb, le-ltb}
-use Rattle.io.specs.Digits.{glyph}
-use Rattle.lines.specs.Text.{Text, text, put, puts, hexOf}
+use Rattle.text.specs.Text.{Text, text, put, puts}
+use Rattle.text.specs.Digits.{glyph, hexOf}
 
 pub put-room : (xs : List ℕ) (n b : ℕ) → n < length xs → text (set xs n b) (n + 1) ≡ put (text xs n) b
 unfolding put
@@ -61,3 +61,19 @@ fits buffer n (x ∷ xs) h =
     let front : take (n + 1) (set buffer n x) ≡ take n buffer ++ (x ∷ []) = rw (add-one n) (take-suc-set buffer n x (omega arith)) in
     let old : take n buffer ++ (x ∷ []) ++ xs ≡ take n buffer ++ (x ∷ xs) = append-snoc (take n buffer) x xs in
     rw (e, puts-cons (text buffer n) x xs, ← step) (more .0 ∙ rw front old, more .1)
+
+-- one byte is a piece
+pub one : (t : Text) (out : List ℕ) (to b : ℕ) → text out to ≡ put t b → text out to ≡ puts t (b ∷ [])
+one t out to b e = e ∙ sym (puts-cons t b [] ∙ puts-nil (put t b))
+
+-- a piece, then another
+pub then : (t u v : Text) (xs ys : List ℕ) → u ≡ puts t xs → v ≡ puts u ys → v ≡ puts t (xs ++ ys)
+then t u v xs ys e d = d ∙ ap (λ (w : Text). puts w ys) e ∙ sym (puts-append t xs ys)
+
+-- a piece, then one byte
+pub then-one : (t u v : Text) (xs : List ℕ) (b : ℕ) → u ≡ puts t xs → v ≡ put u b → v ≡ puts t (xs ++ (b ∷ []))
+then-one t u v xs b e d = then t u v xs (b ∷ []) e (d ∙ sym (puts-cons u b [] ∙ puts-nil (put u b)))
+
+-- the same piece by other words
+pub worded : (t u : Text) (xs ys : List ℕ) → u ≡ puts t xs → xs ≡ ys → u ≡ puts t ys
+worded t u xs ys e d = e ∙ ap (puts t) d

@@ -1,16 +1,16 @@
--- After i turns the digits of the first i bytes are put. Assumes nothing.
+-- After i turns the digits of the first i bytes are put.
 use native.Mathlib.Omega.{arith}
 use mathlib.Core.List.{List}
 use lib.Seq.{take-all}
-use Rattle.io.specs.Digits.{glyph}
-use Rattle.lines.proofs.Puts.{puts-nil, hex-turn}
+use Rattle.text.proofs.Puts.{puts-nil, hex-turn}
 use Prim.Native.Nat.{ℕ, _≤_, _-_, _/_, _%_}
 use mathlib.Core.Path.{_≡_, refl, ap, sym, _∙_}
 use lib.ListN.{length, getD, take}
 use borrow.Author.Needs.{needs}
-use Rattle.lines.specs.Text.{Text, text, put, puts, hexOf}
-use Rattle.lines.proofs.hex.Statement.{statement}
-use Rattle.lines.proofs.hex.Tie as tie
+use Rattle.text.specs.Text.{Text, text, put, puts}
+use Rattle.text.specs.Digits.{glyph, hexOf}
+use Rattle.text.proofs.hex.Statement.{statement}
+use Rattle.text.proofs.hex.Tie as tie
 
 abbrev Inv-loop : tie.InvT-loop
 Inv-loop out₀ at src to₀ i₀ out to i = (i ≤ length src) × (length out ≡ length out₀) × (text out to ≡ puts (text out₀ at) (hexOf (take i src)))

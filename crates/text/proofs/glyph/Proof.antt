@@ -1,8 +1,8 @@
--- Each arm is the definition's. Assumes nothing.
+-- Each arm is the definition's.
 use borrow.Author.Tests.{lt-ltb, le-ltb}
 use borrow.Author.Needs.{needs}
-use Rattle.lines.proofs.glyph.Statement.{statement}
-use Rattle.lines.proofs.glyph.Tie as tie
+use Rattle.text.proofs.glyph.Statement.{statement}
+use Rattle.text.proofs.glyph.Tie as tie
 
 add-result : tie.Need-add-result
 add-result c = search needs

@@ -1,8 +1,8 @@
--- The store is `put` where there is room, and otherwise nothing is stored. Assumes nothing.
-use Rattle.lines.proofs.Puts.{put-room, put-full}
+-- The store is `put` where there is room, and otherwise nothing is stored.
+use Rattle.text.proofs.Puts.{put-room, put-full}
 use borrow.Author.Needs.{needs}
-use Rattle.lines.proofs.byte.Statement.{statement}
-use Rattle.lines.proofs.byte.Tie as tie
+use Rattle.text.proofs.byte.Statement.{statement}
+use Rattle.text.proofs.byte.Tie as tie
 
 slice-write-out : tie.Need-slice-write-out
 slice-write-out c = search needs

@@ -1,14 +1,14 @@
--- After i turns the first i bytes of the piece are put. Assumes nothing.
+-- After i turns the first i bytes of the piece are put.
 use native.Mathlib.Omega.{arith}
 use lib.Seq.{take-all}
-use Rattle.lines.proofs.Puts.{puts-nil, puts-turn}
+use Rattle.text.proofs.Puts.{puts-nil, puts-turn}
 use Prim.Native.Nat.{_≤_, _-_}
 use mathlib.Core.Path.{_≡_, refl, ap, sym, _∙_}
 use lib.ListN.{length, getD, take}
 use borrow.Author.Needs.{needs}
-use Rattle.lines.specs.Text.{Text, text, put, puts}
-use Rattle.lines.proofs.bytes.Statement.{statement}
-use Rattle.lines.proofs.bytes.Tie as tie
+use Rattle.text.specs.Text.{Text, text, put, puts}
+use Rattle.text.proofs.bytes.Statement.{statement}
+use Rattle.text.proofs.bytes.Tie as tie
 
 abbrev Inv-loop : tie.InvT-loop
 Inv-loop out₀ at src to₀ i₀ out to i = (i ≤ length src) × (length out ≡ length out₀) × (text out to ≡ puts (text out₀ at) (take i src))

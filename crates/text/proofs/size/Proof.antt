@@ -1,4 +1,4 @@
--- Every i32 is an i64, and so is its negative. Assumes nothing.
+-- Every i32 is an i64, and so is its negative.
 use Prim.Native.Nat.{ℕ, zero, suc}
 use native.Mathlib.Omega.{arith}
 use mathlib.Core.Path.{_≡_, refl, ap, _∙_}
@@ -10,8 +10,8 @@ use borrow.Author.Tests.{ltb-true}
 use mir.Syntax.{w32, w64}
 use mir.Val.{Fits, SFits, toZ, ofZ}
 use mir.Facts.{toZ-ofZ, sfits-widen}
-use Rattle.lines.proofs.size.Statement.{statement}
-use Rattle.lines.proofs.size.Tie as tie
+use Rattle.text.proofs.size.Statement.{statement}
+use Rattle.text.proofs.size.Tie as tie
 
 widens : {z : ℤ} → SFits w32 z → SFits w64 z
 widens f = sfits-widen {w = w32} {w′ = w64} tt f
