@@ -3,6 +3,7 @@
 // Inner reads ask for a decoder over the area with room for the bools; the public ones test the limits first, and refuse.
 use bitstream_utils::byte_at;
 ghost use mathlib.Core.Path.{_≡_};
+ghost use mathlib.Core.Bool.{_&&_};
 ghost use Prim.Native.Nat.{_+_, _-_, _*_, _%_, _^_, _<_, _≤_};
 ghost use Rattle.rfc6386.specs.Decoder.{bits, split, pick, refusalOf, position};
 ghost use Rattle.rfc6386.specs.Reads.{bool, flag, bit, signed};
@@ -126,6 +127,12 @@ fn refuse_if(test: bool, number: u32, next: u32) -> u32
     if test { number } else { next }
 }
 
+fn both(a: bool, b: bool) -> bool
+    ensures { λ r. ⌜ r ≡ a && b ⌝ }
+{
+    a && b
+}
+
 // The number of the refusal, or 0: a later line goes before an earlier one, so 6, 7, 4, 8. A signed literal wants one bool beside its width.
 fn refusal(size: usize, width: u32, extra: u32, bools: u32) -> u32
     ensures { λ r. ⌜ r ≡ refusalOf size width (width + extra) bools ⌝ }
@@ -136,7 +143,7 @@ fn refusal(size: usize, width: u32, extra: u32, bools: u32) -> u32
         8,
         0,
     );
-    let some = refuse_if(size == 0, refuse_if(0 < wanted, 4, room), room);
+    let some = refuse_if(both(size == 0, 0 < wanted), 4, room);
     let narrow = refuse_if(BoolDecoder::WIDEST < width, 7, some);
     refuse_if(BoolDecoder::AREA_LIMIT <= size, 6, narrow)
 }

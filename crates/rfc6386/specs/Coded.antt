@@ -1,7 +1,7 @@
 -- The frame header's coded fields, and the tree that reads them: RFC 6386 section 19.2, in the order of parser.rs, whatever the parser kept.
 -- A run of options is empty where its group is not coded, and has `none` where a value of a coded group is not.
 use Prim.Native.Nat.{ℕ, zero, suc, _*_}
-use mathlib.Core.Bool.{Bool, true, false, not}
+use mathlib.Core.Bool.{Bool, true, false, not, _&&_}
 use mathlib.Core.Option.{Option, none, some}
 use mathlib.Core.List.{List, []}
 use lib.IntN.{ℤ, pos}
@@ -19,28 +19,38 @@ pub record Segments : Type 0 where
   pub levels : List (Option ℤ)
   pub probs : List (Option ℕ)
 
+-- the feature data alone
+pub record Features : Type 0 where
+  pub mode : Option Bool
+  pub quantizers : List (Option ℤ)
+  pub levels : List (Option ℤ)
+
 -- n values anew, each x where its own flag is clear
 unfoldable pub anew : {A : Type 0} → ℕ → Rd A → A → Rd (List (Option A))
 anew n m x = times n (make some (orElse m x))
 
--- D1: the probabilities are read here, so only where the data are
-unfoldable pub features : Bool → Bool → Bool → Rd Segments
-features e m d = do
+unfoldable pub features : Rd Features
+features = do
   mode ← flag
   q ← anew 4 (sint 7) (pos 0)
   l ← anew 4 (sint 6) (pos 0)
-  p ← when m (anew 3 (lit 8) 255) []
-  ret (record { enabled = e; updateMap = m; updateData = d; mode = some mode; quantizers = q; levels = l; probs = p })
+  ret (record { mode = some mode; quantizers = q; levels = l })
 
-abbrev pub noFeatures : Bool → Bool → Bool → Segments
-noFeatures e m d = record { enabled = e; updateMap = m; updateData = d; mode = none; quantizers = []; levels = []; probs = [] }
+abbrev pub noFeatures : Features
+noFeatures = record { mode = none; quantizers = []; levels = [] }
+
+-- D1: the probabilities are coded where the map and the data are, and not where the map alone is
+abbrev pub mapped : Bool → Bool → Bool
+mapped m d = m && d
 
 unfoldable pub segments : Rd Segments
 segments = do
   e ← flag
   m ← when e flag false
   d ← when e flag false
-  when d (features e m d) (noFeatures e m d)
+  f ← when d features noFeatures
+  p ← when (mapped m d) (anew 3 (lit 8) 255) []
+  ret (record { enabled = e; updateMap = m; updateData = d; mode = f .mode; quantizers = f .quantizers; levels = f .levels; probs = p })
 
 -- section 9.4
 pub record Deltas : Type 0 where

@@ -1,7 +1,7 @@
--- The boolean decoder as arithmetic (RFC 6386 section 7.2, as document 01 states it). The area is a list of bytes, followed by
+-- The boolean decoder as arithmetic (RFC 6386 section 7.2). The area is a list of bytes, followed by
 -- endless zero bits; V is that stream read as a binary number with 8 bits before the point.
 use Prim.Native.Nat.{ℕ, zero, suc, _+_, _-_, _*_, _/_, _%_, _^_, min}
-use mathlib.Core.Bool.{Bool, true, false}
+use mathlib.Core.Bool.{Bool, true, false, _&&_}
 use mathlib.Core.List.{List, [], _∷_}
 use lib.Dec.{leb, ltb, eqb}
 use lib.ListN.{length}
@@ -72,6 +72,4 @@ pick false a b = b
 -- the bare decoder's refusal of a read, 0 for none: by the area's length, the width asked, the bools wanted and those read so far
 abbrev pub refusalOf : ℕ → ℕ → ℕ → ℕ → ℕ
 refusalOf size width wanted n =
-    pick (leb (2 ^ 28) size) 6
-    (pick (ltb 31 width) 7
-    (pick (eqb size 0) (pick (ltb 0 wanted) 4 (pick (ltb 16777216 (n + wanted)) 8 0)) (pick (ltb 16777216 (n + wanted)) 8 0)))
+    pick (leb (2 ^ 28) size) 6 (pick (ltb 31 width) 7 (pick (eqb size 0 && ltb 0 wanted) 4 (pick (ltb 16777216 (n + wanted)) 8 0)))

@@ -21,10 +21,10 @@ ghost use Rattle.vp8_records.specs.Layout.{flatContexts, flatBands, laidBands, 
 ghost use Rattle.vp8_records.specs.Shape.{SizedContexts};
 ghost use Rattle.rfc6386.specs.Reads.{flag, when, lit, sint, make, times, maybe, orElse};
 ghost use Rattle.rfc6386.specs.Runs.{or, over};
-ghost use Rattle.rfc6386.specs.Coded.{anew, features, noFeatures, segments, deltas, quant, coefficients, mvOf, motion, modes};
+ghost use Rattle.rfc6386.specs.Coded.{anew, features, noFeatures, mapped, segments, deltas, quant, coefficients, mvOf, motion, modes};
 ghost use Rattle.rfc6386.specs.Call.{segmented, adjusted, coeffsOver, mvOver};
 ghost use Rattle.bool_decoder.specs.Model.{Good, Ran, Lit};
-ghost use Rattle.vp8_fields.specs.Parts.{coded, codedMv, part};
+ghost use Rattle.vp8_fields.specs.Parts.{featured, coded, codedMv, part};
 ghost use Rattle.vp8_fields.specs.Quiet.{Quiet};
 
 // What was read, and the decoder after it.
@@ -217,37 +217,33 @@ fn segment_probs_if(area: &[u8], dec: BoolDecoder, on: bool, old: [u8; 3]) -> Th
     }
 }
 
-// The feature data of a record whose three flags are as they were read.
+// The feature data, written over those of a record.
 fn feature_data(area: &[u8], dec: BoolDecoder, seg: Segmentation) -> SegmentationRead
-    requires { ⌜ Good (now area) dec 96 ⌝ }
-    ensures { λ r. ⌜ Ran (make (λ c. segmented c seg) (features (seg .«segmentation_enabled») (seg .«update_mb_segmentation_map») (seg .«update_segment_feature_data»))) (now (area .entry)) dec (r .segmentation) (r .dec) 96 ⌝ }
+    requires { ⌜ Good (now area) dec 69 ⌝ }
+    ensures { λ r. ⌜ Ran (make (λ f. featured f seg) features) (now (area .entry)) dec (r .segmentation) (r .dec) 69 ⌝ }
 {
     let mode = dec.read_flag(area);
     let quantizers = sints_or(area, mode.dec, 7, [0; 4]);
     let levels = sints_or(area, quantizers.dec, 6, [0; 4]);
-    let old = seg.segment_prob;
-    let probs = segment_probs_if(area, levels.dec, seg.update_mb_segmentation_map, old);
     let quantizer_update_value = quantizers.values;
     let lf_update_value = levels.values;
-    let segment_prob = probs.values;
     let mut segmentation = seg;
     segmentation.segment_feature_mode = mode.bit;
     segmentation.quantizer_update_value = quantizer_update_value;
     segmentation.lf_update_value = lf_update_value;
-    segmentation.segment_prob = segment_prob;
-    let after = probs.dec;
+    let after = levels.dec;
     SegmentationRead {
         segmentation,
         dec: after,
     }
 }
 
-// The same where they are coded.
-fn feature_data_if(area: &[u8], dec: BoolDecoder, seg: Segmentation) -> SegmentationRead
-    requires { ⌜ Good (now area) dec 96 ⌝ }
-    ensures { λ r. ⌜ Ran (make (λ c. segmented c seg) (when (seg .«update_segment_feature_data») (features (seg .«segmentation_enabled») (seg .«update_mb_segmentation_map») (seg .«update_segment_feature_data»)) (noFeatures (seg .«segmentation_enabled») (seg .«update_mb_segmentation_map») (seg .«update_segment_feature_data»)))) (now (area .entry)) dec (r .segmentation) (r .dec) 96 ⌝ }
+// The same where `on` is set.
+fn feature_data_if(area: &[u8], dec: BoolDecoder, on: bool, seg: Segmentation) -> SegmentationRead
+    requires { ⌜ Good (now area) dec 69 ⌝ }
+    ensures { λ r. ⌜ Ran (make (λ f. featured f seg) (when on features noFeatures)) (now (area .entry)) dec (r .segmentation) (r .dec) 69 ⌝ }
 {
-    if seg.update_segment_feature_data {
+    if on {
         feature_data(area, dec, seg)
     } else {
         SegmentationRead {
@@ -257,6 +253,13 @@ fn feature_data_if(area: &[u8], dec: BoolDecoder, seg: Segmentation) -> Segmenta
     }
 }
 
+// Whether the probabilities are coded.
+fn probs_coded(map: bool, feature: bool) -> bool
+    ensures { λ r. ⌜ r ≡ mapped map feature ⌝ }
+{
+    map && feature
+}
+
 pub fn update_segmentation(area: &[u8], dec: BoolDecoder, seg: Segmentation) -> SegmentationRead
     requires { ⌜ Good (now area) dec 99 ⌝ }
     ensures { λ r. ⌜ Ran (make (λ c. segmented c seg) segments) (now (area .entry)) dec (r .segmentation) (r .dec) 99 ⌝ }
@@ -264,11 +267,21 @@ pub fn update_segmentation(area: &[u8], dec: BoolDecoder, seg: Segmentation) -> 
     let enabled = dec.read_flag(area);
     let map = flag_if(area, enabled.dec, enabled.bit);
     let feature = flag_if(area, map.dec, enabled.bit);
-    let mut flagged = seg;
-    flagged.segmentation_enabled = enabled.bit;
-    flagged.update_mb_segmentation_map = map.bit;
-    flagged.update_segment_feature_data = feature.bit;
-    feature_data_if(area, feature.dec, flagged)
+    let features = feature_data_if(area, feature.dec, feature.bit, seg);
+    let old = seg.segment_prob;
+    let coded = probs_coded(map.bit, feature.bit);
+    let probs = segment_probs_if(area, features.dec, coded, old);
+    let segment_prob = probs.values;
+    let mut segmentation = features.segmentation;
+    segmentation.segmentation_enabled = enabled.bit;
+    segmentation.update_mb_segmentation_map = map.bit;
+    segmentation.update_segment_feature_data = feature.bit;
+    segmentation.segment_prob = segment_prob;
+    let after = probs.dec;
+    SegmentationRead {
+        segmentation,
+        dec: after,
+    }
 }
 
 // Four filter deltas where `on` is set, as they were where it isn't.

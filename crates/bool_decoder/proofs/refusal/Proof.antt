@@ -1,4 +1,4 @@
--- The tests are the definition's, in its order. Assumes nothing.
+-- The tests are the definition's, in its order: each call's answer is one `pick` of it.
 use borrow.Author.Needs.{needs}
 use Rattle.bool_decoder.proofs.refusal.Statement.{statement}
 use Rattle.bool_decoder.proofs.refusal.Tie as tie
@@ -15,6 +15,9 @@ add-refuse-if c = search needs
 refuse-if-requires : tie.Need-refuse-if-requires
 refuse-if-requires c κs = search needs
 
+both-requires : tie.Need-both-requires
+both-requires c κs = search needs
+
 refuse-if-requires-2 : tie.Need-refuse-if-requires-2
 refuse-if-requires-2 c κs = search needs
 
@@ -23,9 +26,6 @@ refuse-if-requires-3 c κs = search needs
 
 refuse-if-requires-4 : tie.Need-refuse-if-requires-4
 refuse-if-requires-4 c κs = search needs
-
-refuse-if-requires-5 : tie.Need-refuse-if-requires-5
-refuse-if-requires-5 c κs = search needs
 
 returns : tie.Need-returns
 returns c = cc
@@ -38,8 +38,8 @@ refusal-spec =
     cast-refuse-if
     add-refuse-if
     refuse-if-requires
+    both-requires
     refuse-if-requires-2
     refuse-if-requires-3
     refuse-if-requires-4
-    refuse-if-requires-5
     returns)

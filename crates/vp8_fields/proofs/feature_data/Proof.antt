@@ -1,13 +1,12 @@
--- One read after the other, each the definition's value written over the old one. Assumes nothing.
+-- One read after the other, each the definition's value written over the old one.
 use mathlib.Core.Path.{_≡_, sym}
 use lib.IntN.{pos}
 use lib.ListN.{length}
 use borrow.Author.Needs.{needs}
 use Rattle.rfc6386.specs.Reads.{sint}
-use Rattle.rfc6386.specs.Runs.{over}
 use Rattle.rfc6386.specs.Coded.{features}
-use Rattle.rfc6386.specs.Call.{segmented}
 use Rattle.bool_decoder.proofs.Chain.{then, done}
+use Rattle.vp8_fields.specs.Parts.{featured}
 use Rattle.vp8_fields.proofs.InPlace.{anew-over}
 use Rattle.vp8_fields.proofs.Made.{same, worth, makes, made}
 use Rattle.vp8_fields.proofs.feature_data.Statement.{statement}
@@ -29,33 +28,27 @@ sints-or-requires c κs = search needs
 sints-or-requires-2 : tie.Need-sints-or-requires-2
 sints-or-requires-2 c κs = search needs
 
-segment-probs-if-requires : tie.Need-segment-probs-if-requires
-segment-probs-if-requires c κs = search needs
-
 returns : tie.Need-returns
-unfolding features segmented
+unfolding features featured
 returns c =
-    let g = c .before .before .before .before .before .before .before .before .before .before .args .seg in
-    let q = made (same (anew-over (sint 7) (pos 0) 4 (g .«quantizer_update_value») (four (c .before .before .before .before .before .before .before .before .before .before))) (c .before .before .before .before .before .before .before .sints-or .ensures)) in
-    let l = made (same (anew-over (sint 6) (pos 0) 4 (g .«lf_update_value») (four-more (c .before .before .before .before .before .before .before .before .before .before))) (c .before .before .before .before .before .before .sints-or2 .ensures)) in
-    let p = made (c .before .before .before .before .segment-probs-if .ensures) in
+    let at-levels = c .before .before .before in
+    let at-quantizers = at-levels .before in
+    let at-mode = at-quantizers .before in
+    let start = at-mode .before .before in
+    let g = start .args .seg in
+    let q = made (same (anew-over (sint 7) (pos 0) 4 (g .«quantizer_update_value») (four start)) (at-quantizers .sints-or .ensures)) in
+    let l = made (same (anew-over (sint 6) (pos 0) 4 (g .«lf_update_value») (four-more start)) (at-levels .sints-or2 .ensures)) in
     worth (λ i. record {
       «segmentation_enabled» = g .«segmentation_enabled»;
       «update_mb_segmentation_map» = g .«update_mb_segmentation_map»;
       «update_segment_feature_data» = g .«update_segment_feature_data»;
-      «segment_feature_mode» = c .before .before .before .before .before .before .before .before .read-flag .result .bit;
+      «segment_feature_mode» = at-mode .read-flag .result .bit;
       «quantizer_update_value» = sym (q .is) i;
       «lf_update_value» = sym (l .is) i;
-      «segment_prob» = sym (p .is) i;
+      «segment_prob» = g .«segment_prob»;
     })
-    (makes (λ s. segmented s g) (then _ (c .before .before .before .before .before .before .before .before .read-flag .ensures) (then _ (q .ran) (then _ (l .ran) (then _ (p .ran) (done (p .ran .over)))))))
+    (makes (λ f. featured f g) (then _ (at-mode .read-flag .ensures) (then _ (q .ran) (then _ (l .ran) (done (l .ran .over))))))
 
 pub feature-data-spec : {M : Type 1} → statement M
 feature-data-spec =
-    tie.close
-    (tie.spec
-    read-flag-requires
-    sints-or-requires
-    sints-or-requires-2
-    segment-probs-if-requires
-    returns)
+    tie.close (tie.spec read-flag-requires sints-or-requires sints-or-requires-2 returns)

@@ -1,9 +1,9 @@
--- The reads under a flag. Assumes nothing.
+-- The reads under a flag: `make-on` and `make-off`.
 use native.Mathlib.Omega.{arith}
 use borrow.Author.Needs.{needs}
 use Rattle.bool_decoder.proofs.Chain.{done, upto}
 use Rattle.rfc6386.specs.Runs.{over}
-use Rattle.rfc6386.specs.Call.{segmented}
+use Rattle.vp8_fields.specs.Parts.{featured}
 use Rattle.vp8_fields.proofs.InPlace.{make-on, make-off}
 use Rattle.vp8_fields.proofs.Made.{same}
 use Rattle.vp8_fields.proofs.feature_data_if.Statement.{statement}
@@ -16,7 +16,7 @@ returns : tie.Need-returns
 returns c = same (make-on _ _ _ (c .before .if1 .taken)) (c .feature-data .ensures)
 
 returns-2 : tie.Need-returns-2
-unfolding over segmented
+unfolding over featured
 returns-2 c = upto (omega arith) (same (make-off _ _ _ (c .if1 .left)) (done (c .before .before .pre .over)))
 
 pub feature-data-if-spec : {M : Type 1} → statement M

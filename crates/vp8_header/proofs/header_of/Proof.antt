@@ -1,9 +1,16 @@
--- Field by field; the position and the snapshot are the definition's. Assumes nothing.
+-- Field by field, with the equations that the calls ensure; two rewrites, since one would pass the checker's limit of steps.
 use borrow.Author.Needs.{needs}
 use Rattle.rfc6386.specs.Frame.{snapshot}
-use Rattle.vp8_header.specs.Stages.{headerFrom}
+use Rattle.rfc6386.specs.Call.{probsOver, headerOf}
+use Rattle.vp8_header.specs.Stages.{firstOf, secondOf, interOf, thirdOf}
 use Rattle.vp8_header.proofs.header_of.Statement.{statement}
 use Rattle.vp8_header.proofs.header_of.Tie as tie
+
+cast-horiz-scale-code : tie.Need-cast-horiz-scale-code
+cast-horiz-scale-code c = search needs
+
+cast-vert-scale-code : tie.Need-cast-vert-scale-code
+cast-vert-scale-code c = search needs
 
 mode-probs-init-defaults-requires : tie.Need-mode-probs-init-defaults-requires
 mode-probs-init-defaults-requires c κs = search needs
@@ -14,25 +21,30 @@ pos-requires c κs = search needs
 snapshot-requires : tie.Need-snapshot-requires
 snapshot-requires c κs = search needs
 
-cast-t19 : tie.Need-cast-t19
-cast-t19 c = search needs
+blocks-requires : tie.Need-blocks-requires
+blocks-requires c κs = search needs
 
-cast-t21 : tie.Need-cast-t21
-cast-t21 c = search needs
+blocks-requires-2 : tie.Need-blocks-requires-2
+blocks-requires-2 c κs = search needs
 
 returns : tie.Need-returns
-unfolding headerFrom snapshot
-returns c =
-    let s = c .before .before .snapshot .ensures in
-    rw (c .before .before .before .before .mode-probs-init-defaults .ensures, c .before .before .before .pos .ensures, s .range, s .value, s .count)
+unfolding headerOf snapshot probsOver firstOf secondOf thirdOf interOf
+returns c p a b t ex ey ez =
+    let at-snapshot = c .before .before in
+    let s = at-snapshot .snapshot .ensures in
+    let modes = at-snapshot .before .before .mode-probs-init-defaults .ensures in
+    rw (modes, at-snapshot .before .pos .ensures, s .range, s .value, s .count)
+    (rw (c .before .blocks2 .ensures, c .blocks3 .ensures) (rw (ex, ey, ez)))
 
 pub header-of-spec : {M : Type 1} → statement M
 header-of-spec =
     tie.close
     (tie.spec
+    cast-horiz-scale-code
+    cast-vert-scale-code
     mode-probs-init-defaults-requires
     pos-requires
     snapshot-requires
-    cast-t19
-    cast-t21
+    blocks-requires
+    blocks-requires-2
     returns)
