@@ -84,7 +84,7 @@ if [ "$counter" = emulator ]; then
 else
     told=$(valgrind --version)
 fi
-built="$("$rustc" --version | cut -d' ' -f1,2), optimised, one unit"
+built="$("$rustc" --version | cut -d' ' -f1,2), -C opt-level=3 -C codegen-units=1"
 
 # Prints the instructions within a function and what it calls, over a run of the host; which symbols have them is left in $made/shares.
 count() { # FUNCTION CALLER WORDS..

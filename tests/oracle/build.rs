@@ -13,14 +13,13 @@ fn main() {
     let out = PathBuf::from(std::env::var("OUT_DIR").expect("set by cargo"));
     let from = std::env::var("SILLBROOK_RUST_SRC")
         .unwrap_or_else(|_| stop("SILLBROOK_RUST_SRC is not set; call tests/oracle/run"));
-    for name in assemble::FILES {
+    for (name, _) in assemble::FILES {
         println!("cargo:rerun-if-changed={}", Path::new(&from).join(name).display());
     }
     let given = assemble::Given::read(Path::new(&from)).unwrap_or_else(|why| stop(&why));
     let access = here.join("src/access.rs");
     write(&out.join("plain.rs"), &given.modules("crate::", &access));
-    let counted = given.counted().unwrap_or_else(|why| stop(&why));
-    write(&out.join("counted.rs"), &counted.modules("crate::counted::", &access));
+    write(&out.join("counted.rs"), &given.counted().modules("crate::counted::", &access));
 }
 
 fn write(path: &Path, text: &str) {

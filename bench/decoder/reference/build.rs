@@ -10,7 +10,7 @@ fn main() {
     println!("cargo:rerun-if-env-changed=SILLBROOK_RUST_SRC");
     println!("cargo:rerun-if-changed=build.rs");
     let from = std::env::var("SILLBROOK_RUST_SRC").expect("set by bench/decoder/run");
-    for name in assemble::FILES {
+    for (name, _) in assemble::FILES {
         println!("cargo:rerun-if-changed={}", Path::new(&from).join(name).display());
     }
     let given = assemble::Given::read(Path::new(&from)).expect("the Rust as given");

@@ -1,6 +1,8 @@
-//! Variants of the Rust with one slip each: the stored lists must tell every one of them from the Rust.
+//! Variants of the Rust with one slip each: the stored lists must tell every one of them from the Rust. A slip names its places in the
+//! Rust by line and column, so that no text of the Rust stands here; assemble.rs knows the texts by their digests, so that a place stays
+//! where it is. Beside each variant's program `write` leaves what was changed, for whoever has the Rust.
 
-use crate::assemble::{replaced, Given};
+use crate::assemble::Given;
 use std::path::Path;
 
 /// Which text a slip alters.
@@ -10,13 +12,21 @@ enum In {
     Decoder,
 }
 
+enum Edit {
+    /// At this line and column, both counted from 1, so many characters are cut and these are put.
+    Put(In, usize, usize, usize, &'static str),
+    /// This line and the next change places.
+    Swap(In, usize),
+}
+
+use Edit::{Put, Swap};
 use In::{Decoder, Parser};
 
-/// A name and the edits that make it; each pattern stands in its text exactly once.
-type Slip = (&'static str, &'static [(In, &'static str, &'static str)]);
+/// A name and the edits that make it, in the order of their places.
+type Slip = (&'static str, &'static [Edit]);
 
-/// The head of the call, which some slips wrap.
-const CALL: &str = "pub fn parse_frame<'a>(&mut self, bitstream: &'a [u8]) -> Result<Frame<'a>, ParseFrameError> {";
+/// The line that is the head of the call, which some slips wrap.
+const CALL: usize = 704;
 
 /// Slips that alter the parser's record after some outcomes: the outcome, and what is done then.
 const AFTER: [(&str, &str, &str); 6] = [
@@ -42,134 +52,139 @@ const AFTER: [(&str, &str, &str); 6] = [
 
 const SLIPS: &[Slip] = &[
     // The boolean decoder.
-    ("sign before magnitude", &[(Decoder,
-        "let mut value = self.read_literal(nbits)?;\n        let sign = self.read_bool()?;",
-        "let sign = self.read_bool()?;\n        let mut value = self.read_literal(nbits)?;")]),
-    ("sign the other way", &[(Decoder, "if sign {", "if !sign {")]),
-    ("literal low bit first", &[(Decoder,
-        "ret = (ret << 1) | self.read_bit(DEFAULT_PROBABILITY)? as i32;",
-        "ret = (ret as u32 >> 1 | (self.read_bit(DEFAULT_PROBABILITY)? as u32) << 31) as i32;\n        }\n        if nbits > 0 {\n            ret = (ret as u32 >> (32 - nbits)) as i32;")]),
-    ("wider word keeps the dropped bit", &[
-        (Decoder, "    range: usize,\n    value: usize,\n    count: isize,\n}\n\nimpl", "    range: usize,\n    value: u128,\n    count: isize,\n}\n\nimpl"),
-        (Decoder, "value: 0usize,", "value: 0u128,"),
-        (Decoder, "self.data.read_bits::<usize>(8).ok()? << shift", "(self.data.read_bits::<usize>(8).ok()? as u128) << shift"),
-        (Decoder, "let bigsplit = split <<", "let bigsplit = (split as u128) <<"),
-        (Decoder, "value: bd.value >> (BD_VALUE_SIZE - U8_BITS),", "value: (bd.value >> (BD_VALUE_SIZE - U8_BITS)) as usize,"),
+    ("sign before magnitude", &[Swap(Decoder, 188)]),
+    ("sign the other way", &[Put(Decoder, 191, 12, 0, "!")]),
+    ("literal low bit first", &[
+        Put(Decoder, 148, 24, 2, "as u32 >>"),
+        Put(Decoder, 148, 28, 1, ""),
+        Put(Decoder, 148, 32, 0, "("),
+        Put(
+            Decoder,
+            148,
+            67,
+            0,
+            " as u32) << 31) as i32;\n        }\n        if nbits > 0 {\n            ret = (ret as u32 >> (32 - nbits))",
+        ),
     ]),
-    ("split without its 1", &[(Decoder, "let split = 1 + (", "let split = (")]),
-    ("split from the whole range", &[(Decoder, "(self.range - 1) * probability", "self.range * probability")]),
-    ("a bool is 1 only above the split", &[(Decoder, "self.value >= bigsplit", "self.value > bigsplit")]),
-    ("first range 254", &[(Decoder, "range: 255usize", "range: 254usize")]),
-    ("flags at probability 127", &[(Decoder, "DEFAULT_PROBABILITY: u8 = 128", "DEFAULT_PROBABILITY: u8 = 127")]),
-    ("one entry of the shift table less", &[(Decoder, "0, 7, 6, 6, 5,", "0, 7, 6, 5, 5,")]),
-    ("last entry of the shift table's first half more", &[(Decoder,
-        "1, 1, 1, 1, 1, 1, 1, 1,\n    0, 0, 0,",
-        "1, 1, 1, 1, 1, 1, 1, 2,\n    0, 0, 0,")]),
-    ("snapshot count from the stopped position", &[(Decoder,
-        "count: (U8_BITS as isize + bd.count) % U8_BITS as isize,",
-        "count: ((8 - bd.pos() % 8) % 8) as isize,")]),
-    ("snapshot without taking in the next byte", &[(Decoder, "if bd.count < 0 {", "if false {")]),
-    ("position goes on past the end", &[(Decoder,
-        "bit_count.saturating_sub(LOTS_OF_BITS as usize)\n        }\n\n        let pos = self.data.position() as usize;\n        pos - bit_count",
-        "bit_count.wrapping_sub(LOTS_OF_BITS as usize)\n        }\n\n        let pos = self.data.position() as usize;\n        pos.wrapping_sub(bit_count)")]),
-    ("last byte of the area not read", &[(Decoder, "let bits_left = self.data.num_bits_left() as i32;", "let bits_left = (self.data.num_bits_left() as i32 - 8).max(8);")]),
+    ("wider word keeps the dropped bit", &[
+        Put(Decoder, 63, 12, 5, "u128"),
+        Put(Decoder, 73, 20, 6, "0u128"),
+        Put(Decoder, 98, 31, 0, "("),
+        Put(Decoder, 98, 68, 0, " as u128)"),
+        Put(Decoder, 116, 24, 0, "("),
+        Put(Decoder, 116, 29, 0, " as u128)"),
+        Put(Decoder, 218, 20, 0, "("),
+        Put(Decoder, 218, 57, 0, ") as usize"),
+    ]),
+    ("split without its 1", &[Put(Decoder, 110, 21, 4, "")]),
+    ("split from the whole range", &[Put(Decoder, 110, 27, 1, ""), Put(Decoder, 110, 38, 5, "")]),
+    ("a bool is 1 only above the split", &[Put(Decoder, 118, 34, 1, "")]),
+    ("first range 254", &[Put(Decoder, 72, 20, 8, "254usize")]),
+    ("flags at probability 127", &[Put(Decoder, 28, 33, 3, "127")]),
+    ("one entry of the shift table less", &[Put(Decoder, 17, 14, 1, "5")]),
+    ("last entry of the shift table's first half more", &[Put(Decoder, 20, 98, 1, "2")]),
+    ("snapshot count from the stopped position", &[
+        Put(Decoder, 219, 21, 7, "(8"),
+        Put(Decoder, 219, 29, 10, "-"),
+        Put(Decoder, 219, 43, 5, "pos("),
+        Put(Decoder, 219, 52, 7, "8) % 8)"),
+    ]),
+    ("snapshot without taking in the next byte", &[Put(Decoder, 213, 12, 12, "false")]),
+    ("position goes on past the end", &[
+        Put(Decoder, 203, 35, 14, "wrapping_sub"),
+        Put(Decoder, 207, 12, 3, ".wrapping_sub("),
+        Put(Decoder, 207, 24, 0, ")"),
+    ]),
+    ("last byte of the area not read", &[Put(Decoder, 86, 25, 0, "("), Put(Decoder, 86, 57, 0, " - 8).max(8)")]),
 
     // The chunk.
-    ("width of 13 bits", &[(Parser, "header.width = size_code & 0x3fff", "header.width = size_code & 0x1fff")]),
-    ("height of 13 bits", &[(Parser, "header.height = size_code & 0x3fff", "header.height = size_code & 0x1fff")]),
-    ("scale code of one bit", &[(Parser, "header.horiz_scale_code = (size_code >> 14) as u8", "header.horiz_scale_code = (size_code >> 15) as u8")]),
-    ("version of two bits", &[(Parser, "(frame_tag >> 1) & 0x07", "(frame_tag >> 1) & 0x03")]),
-    ("first partition size of 18 bits", &[(Parser, "(frame_tag >> 5) & 0x7ffff", "(frame_tag >> 5) & 0x3ffff")]),
-    ("start code not looked at", &[(Parser, "if start_code != 0x2a019d {", "if start_code & 0xffff != 0x019d {")]),
-    ("key frame does not reset", &[(Parser, "*self = Default::default();", "")]),
-    ("first partition must end before the end", &[(Parser, "first_part_end > bitstream.len()", "first_part_end >= bitstream.len()")]),
-    ("first partition may end one after the end", &[(Parser, "first_part_end > bitstream.len()", "first_part_end > bitstream.len() + 1")]),
-    ("chunk left out of the first partition's end", &[(Parser, "header.data_chunk_size as usize + header.first_part_size as usize", "header.first_part_size as usize")]),
+    ("width of 13 bits", &[Put(Parser, 282, 40, 6, "0x1fff")]),
+    ("height of 13 bits", &[Put(Parser, 288, 41, 6, "0x1fff")]),
+    ("scale code of one bit", &[Put(Parser, 281, 53, 2, "15")]),
+    ("version of two bits", &[Put(Parser, 263, 42, 4, "0x03")]),
+    ("first partition size of 18 bits", &[Put(Parser, 265, 49, 7, "0x3ffff")]),
+    ("start code not looked at", &[Put(Parser, 274, 27, 0, "& 0xffff "), Put(Parser, 274, 30, 8, "0x019d")]),
+    ("key frame does not reset", &[Put(Parser, 708, 13, 27, "")]),
+    ("first partition must end before the end", &[Put(Parser, 713, 28, 0, "=")]),
+    ("first partition may end one after the end", &[Put(Parser, 713, 45, 0, "+ 1 ")]),
+    ("chunk left out of the first partition's end", &[Put(Parser, 711, 37, 34, "")]),
 
     // Segmentation and the filter.
-    ("map flag not cleared", &[(Parser, "seg.update_mb_segmentation_map = false;", "")]),
-    ("feature data flag not cleared", &[(Parser, "seg.update_segment_feature_data = false;", "")]),
-    ("segment probabilities with the map flag alone", &[(Parser,
-        "            if seg.update_mb_segmentation_map {",
-        "        }\n        {\n            if seg.update_mb_segmentation_map {")]),
-    ("segment probabilities with the data flag alone", &[(Parser, "if seg.update_mb_segmentation_map {", "if true {")]),
-    ("segment probability without flag 0", &[(Parser, "*value = 255;", "*value = 0;")]),
-    ("segment quantizer without flag kept", &[(Parser, "*value = bd.read_sint(7)?;\n                } else {", "*value = bd.read_sint(7)?;\n                } else if false {")]),
-    ("segment filter level without flag kept", &[(Parser, "*value = bd.read_sint(6)?;\n                } else {", "*value = bd.read_sint(6)?;\n                } else if false {")]),
-    ("segment mode not stored", &[(Parser, "seg.segment_feature_mode = bd.read_bool()?;", "bd.read_bool()?;")]),
-    ("segmentation off forgets its mode", &[(Parser, "if !seg.segmentation_enabled {", "if !seg.segmentation_enabled {\n            seg.segment_feature_mode = false;")]),
-    ("filter update flag not cleared", &[(Parser, "adj.mode_ref_lf_delta_update = false;", "")]),
-    ("reference delta without flag 0", &[(Parser,
-        "for value in adj.ref_frame_delta.iter_mut() {",
-        "for value in adj.ref_frame_delta.iter_mut() {\n            *value = 0;")]),
-    ("mode delta without flag 0", &[(Parser,
-        "for value in adj.mb_mode_delta.iter_mut() {",
-        "for value in adj.mb_mode_delta.iter_mut() {\n            *value = 0;")]),
-    ("filter deltas forgotten when off", &[(Parser, "if !adj.loop_filter_adj_enable {", "if !adj.loop_filter_adj_enable {\n            *adj = Default::default();")]),
-    ("sharpness before level", &[(Parser,
-        "frame.loop_filter_level = bd.read_uint(6)?;\n        frame.sharpness_level = bd.read_uint(3)?;",
-        "frame.sharpness_level = bd.read_uint(3)?;\n        frame.loop_filter_level = bd.read_uint(6)?;")]),
+    ("map flag not cleared", &[Put(Parser, 430, 9, 39, "")]),
+    ("feature data flag not cleared", &[Put(Parser, 431, 9, 40, "")]),
+    ("segment probabilities with the map flag alone", &[Put(Parser, 466, 1, 0, "        }\n        {\n")]),
+    ("segment probabilities with the data flag alone", &[Put(Parser, 466, 16, 30, "true")]),
+    ("segment probability without flag 0", &[Put(Parser, 474, 34, 3, "0")]),
+    ("segment quantizer without flag kept", &[Put(Parser, 448, 24, 0, "if false ")]),
+    ("segment filter level without flag kept", &[Put(Parser, 459, 24, 0, "if false ")]),
+    ("segment mode not stored", &[Put(Parser, 442, 13, 27, "")]),
+    ("segmentation off forgets its mode", &[Put(Parser, 435, 13, 0, "seg.segment_feature_mode = false;\n            ")]),
+    ("filter update flag not cleared", &[Put(Parser, 487, 9, 37, "")]),
+    ("reference delta without flag 0", &[Put(Parser, 500, 13, 0, "*value = 0;\n            ")]),
+    ("mode delta without flag 0", &[Put(Parser, 507, 13, 0, "*value = 0;\n            ")]),
+    ("filter deltas forgotten when off", &[Put(Parser, 491, 13, 0, "*adj = Default::default();\n            ")]),
+    ("sharpness before level", &[Swap(Parser, 612)]),
 
     // The rest of the header.
-    ("decoder held to the first partition", &[(Parser, "BoolDecoder::new(data)", "BoolDecoder::new(&data[..frame.first_part_size as usize])")]),
+    ("decoder held to the first partition", &[Put(Parser, 602, 39, 0, "&"), Put(Parser, 602, 43, 0, "[..frame.first_part_size as usize]")]),
     ("quantizer deltas in another order", &[
-        (Parser, "q.y2_dc_delta = bd.read_sint(4)?;", "q.y2_ac_delta = bd.read_sint(4)?;"),
-        (Parser, "q.y2_ac_delta = bd.read_sint(4)?;\n        } else {\n            q.y2_ac_delta = 0;", "q.y2_dc_delta = bd.read_sint(4)?;\n        } else {"),
+        Put(Parser, 529, 15, 11, "y2_ac_delta"),
+        Put(Parser, 536, 15, 11, "y2_dc_delta"),
+        Put(Parser, 537, 17, 31, ""),
     ]),
-    ("chroma quantizer delta of five bits", &[(Parser, "q.uv_ac_delta = bd.read_sint(4)?", "q.uv_ac_delta = bd.read_sint(5)?")]),
+    ("chroma quantizer delta of five bits", &[Put(Parser, 550, 42, 1, "5")]),
     ("copy codes in the other order", &[
-        (Parser,
-            "if !frame.refresh_golden_frame {\n                frame.copy_buffer_to_golden = bd.read_uint(2)?;",
-            "if !frame.refresh_alternate_frame {\n                frame.copy_buffer_to_alternate = bd.read_uint(2)?; // first"),
-        (Parser,
-            "if !frame.refresh_alternate_frame {\n                frame.copy_buffer_to_alternate = bd.read_uint(2)?;\n",
-            "if !frame.refresh_golden_frame {\n                frame.copy_buffer_to_golden = bd.read_uint(2)?;\n"),
+        Put(Parser, 636, 23, 20, "refresh_alternate_frame"),
+        Put(Parser, 637, 23, 21, "copy_buffer_to_alternate"),
+        Put(Parser, 637, 64, 0, " // first"),
+        Put(Parser, 640, 23, 23, "refresh_golden_frame"),
+        Put(Parser, 641, 23, 24, "copy_buffer_to_golden"),
     ]),
-    ("sign biases in the other order", &[(Parser,
-        "frame.sign_bias_golden = bd.read_bool()?;\n            frame.sign_bias_alternate = bd.read_bool()?;",
-        "frame.sign_bias_alternate = bd.read_bool()?;\n            frame.sign_bias_golden = bd.read_bool()?;")]),
-    ("refresh flags in the other order", &[(Parser,
-        "frame.refresh_golden_frame = bd.read_bool()?;\n            frame.refresh_alternate_frame = bd.read_bool()?;",
-        "frame.refresh_alternate_frame = bd.read_bool()?;\n            frame.refresh_golden_frame = bd.read_bool()?;")]),
-    ("refresh last before refresh entropy", &[(Parser,
-        "frame.refresh_entropy_probs = bd.read_bool()?;\n            frame.refresh_last = bd.read_bool()?;",
-        "frame.refresh_last = bd.read_bool()?;\n            frame.refresh_entropy_probs = bd.read_bool()?;")]),
-    ("key frame leaves refresh last false", &[(Parser, "frame.refresh_last = true;", "")]),
-    ("key frame takes the other mode probabilities", &[(Parser, "mode_probs_init_defaults(&mut frame.mode_probs, true)", "mode_probs_init_defaults(&mut frame.mode_probs, false)")]),
-    ("inter frame starts from the default mode probabilities", &[(Parser, "frame.mode_probs = self.mode_probs.clone();", "Parser::mode_probs_init_defaults(&mut frame.mode_probs, false);")]),
-    ("inter frame starts from the default coefficients", &[(Parser, "frame.coeff_prob = self.coeff_prob;", "frame.coeff_prob = COEFF_DEFAULT_PROBS;")]),
-    ("coefficients in another order", &[(Parser, "for (j, vj) in vi.iter_mut().enumerate() {", "for (j, vj) in vi.iter_mut().enumerate().rev() {")]),
-    ("coefficient flags from a transposed table", &[(Parser, "COEFF_UPDATE_PROBS[i][j][k][l]", "COEFF_UPDATE_PROBS[i][7 - j][k][l]")]),
-    ("motion update 0 stores 0", &[(Parser, "*prob = 1;", "*prob = 0;")]),
-    ("motion update not doubled", &[(Parser, "*prob = mv_prob_update << 1;", "*prob = mv_prob_update;")]),
-    ("motion rows in the other order", &[(Parser, "in mv_probs.iter_mut().enumerate() {", "in mv_probs.iter_mut().enumerate().rev() {")]),
-    ("prob last before prob intra", &[(Parser,
-        "frame.prob_intra = bd.read_uint(8)?;\n            frame.prob_last = bd.read_uint(8)?;",
-        "frame.prob_last = bd.read_uint(8)?;\n            frame.prob_intra = bd.read_uint(8)?;")]),
-    ("chroma modes in the wrong order", &[(Parser, "in frame.mode_probs.intra_chroma_prob.iter_mut() {", "in frame.mode_probs.intra_chroma_prob.iter_mut().rev() {")]),
+    ("sign biases in the other order", &[Put(Parser, 644, 19, 16, "sign_bias_alternate"), Put(Parser, 645, 19, 19, "sign_bias_golden")]),
+    ("refresh flags in the other order", &[
+        Put(Parser, 633, 19, 20, "refresh_alternate_frame"),
+        Put(Parser, 634, 19, 23, "refresh_golden_frame"),
+    ]),
+    ("refresh last before refresh entropy", &[Put(Parser, 646, 19, 21, "refresh_last"), Put(Parser, 647, 19, 12, "refresh_entropy_probs")]),
+    ("key frame leaves refresh last false", &[Put(Parser, 627, 13, 26, "")]),
+    ("key frame takes the other mode probabilities", &[Put(Parser, 631, 69, 4, "false")]),
+    ("inter frame starts from the default mode probabilities", &[
+        Put(Parser, 649, 13, 0, "Parser::mode_probs_init_defaults(&mut "),
+        Put(Parser, 649, 29, 0, ","),
+        Put(Parser, 649, 30, 24, "false"),
+    ]),
+    ("inter frame starts from the default coefficients", &[Put(Parser, 652, 28, 15, "COEFF_DEFAULT_PROBS")]),
+    ("coefficients in another order", &[Put(Parser, 563, 53, 0, ".rev()")]),
+    ("coefficient flags from a transposed table", &[Put(Parser, 566, 83, 0, "7 - ")]),
+    ("motion update 0 stores 0", &[Put(Parser, 591, 33, 1, "0")]),
+    ("motion update not doubled", &[Put(Parser, 589, 47, 5, "")]),
+    ("motion rows in the other order", &[Put(Parser, 582, 55, 0, ".rev()")]),
+    ("prob last before prob intra", &[Put(Parser, 663, 19, 10, "prob_last"), Put(Parser, 664, 19, 9, "prob_intra")]),
+    ("chroma modes in the wrong order", &[Put(Parser, 676, 74, 0, ".rev()")]),
 
     // What is kept.
-    ("probabilities always kept", &[(Parser, "if frame.refresh_entropy_probs {", "if true {")]),
-    ("probabilities never kept", &[(Parser, "if frame.refresh_entropy_probs {", "if false {")]),
-    ("motion probabilities not kept", &[(Parser, "self.mv_prob = frame.mv_prob;", "")]),
-    ("mode probabilities not kept", &[(Parser, "self.mode_probs = frame.mode_probs.clone();", "")]),
-    ("mode probabilities kept from key frames too", &[(Parser, "if !frame.key_frame {\n                self.mode_probs", "if true {\n                self.mode_probs")]),
+    ("probabilities always kept", &[Put(Parser, 684, 12, 27, "true")]),
+    ("probabilities never kept", &[Put(Parser, 684, 12, 27, "false")]),
+    ("motion probabilities not kept", &[Put(Parser, 686, 13, 29, "")]),
+    ("mode probabilities not kept", &[Put(Parser, 689, 17, 43, "")]),
+    ("mode probabilities kept from key frames too", &[Put(Parser, 688, 16, 16, "true")]),
 
     // The partitions.
-    ("table of sizes must end before the end", &[(Parser, "3 * (num_partitions - 1);\n\n        if ofs > data.len() {", "3 * (num_partitions - 1);\n\n        if ofs >= data.len() {")]),
-    ("partitions must end before the end", &[(Parser, "ofs += part_size as usize;\n        }\n\n        if ofs > data.len() {", "ofs += part_size as usize;\n        }\n\n        if ofs >= data.len() {")]),
+    ("table of sizes must end before the end", &[Put(Parser, 304, 17, 0, "=")]),
+    ("partitions must end before the end", &[Put(Parser, 320, 17, 0, "=")]),
     ("partitions may end one after the end", &[
-        (Parser, "ofs += part_size as usize;\n        }\n\n        if ofs > data.len() {", "ofs += part_size as usize;\n        }\n\n        if ofs > data.len() + 1 {"),
-        (Parser, "u32::try_from(data.len() - ofs)", "u32::try_from(data.len().saturating_sub(ofs))"),
+        Put(Parser, 320, 29, 0, "+ 1 "),
+        Put(Parser, 324, 75, 3, ".saturating_sub("),
+        Put(Parser, 324, 81, 0, ")"),
     ]),
-    ("last partition one short", &[(Parser, "u32::try_from(data.len() - ofs)", "u32::try_from((data.len() - ofs).saturating_sub(1))")]),
-    ("last partition with the table counted in", &[(Parser, "u32::try_from(data.len() - ofs)", "u32::try_from(data.len() - ofs + 3 * (num_partitions - 1))")]),
-    ("sizes high byte first", &[
-        (Parser, "u32::from(data[part_size_ofs]);", "u32::from(data[part_size_ofs]) << 16;"),
-        (Parser, "u32::from(data[part_size_ofs + 2]) << 16;", "u32::from(data[part_size_ofs + 2]);"),
+    ("last partition one short", &[Put(Parser, 324, 65, 0, "("), Put(Parser, 324, 81, 0, ").saturating_sub(1)")]),
+    ("last partition with the table counted in", &[Put(Parser, 324, 81, 0, " + 3 * (num_partitions - 1)")]),
+    ("sizes high byte first", &[Put(Parser, 309, 52, 0, " << 16"), Put(Parser, 311, 56, 6, "")]),
+    ("third byte of a size worth less", &[Put(Parser, 311, 60, 2, "15")]),
+    ("table of sizes counted from the frame's start", &[
+        Put(Parser, 301, 33, 0, "("),
+        Put(Parser, 301, 62, 0, ").saturating_sub(self.data_chunk_size as usize)"),
     ]),
-    ("third byte of a size worth less", &[(Parser, "u32::from(data[part_size_ofs + 2]) << 16;", "u32::from(data[part_size_ofs + 2]) << 15;")]),
-    ("table of sizes counted from the frame's start", &[(Parser, "let mut part_size_ofs = self.first_part_size as usize;", "let mut part_size_ofs = (self.first_part_size as usize).saturating_sub(self.data_chunk_size as usize);")]),
 ];
 
 /// The text of a slip's program: the altered Rust with the replay of the lists around it.
@@ -183,28 +198,65 @@ fn program(given: &Given) -> String {
     out + "fn main() { let a: Vec<String> = std::env::args().skip(1).collect(); std::process::exit(replay::main(&a)) }\n"
 }
 
-/// Writes one program a slip into the folder, numbered, with its name beside it; 00 is the Rust unchanged.
+/// Where a line, counted from 1, begins.
+fn start(text: &str, line: usize) -> usize {
+    text.split_inclusive('\n').take(line - 1).map(str::len).sum()
+}
+
+/// The text of a line without its end.
+fn line(text: &str, number: usize) -> &str {
+    text.lines().nth(number - 1).expect("a line of the text that its digest names")
+}
+
+fn edited(given: &Given, edits: &[Edit]) -> Given {
+    let mut out = given.clone();
+    // From the last place to the first, so that each still stands where it is told.
+    for edit in edits.iter().rev() {
+        let (Put(which, ..) | Swap(which, ..)) = edit;
+        let text = match which {
+            Parser => &mut out.parser,
+            Decoder => &mut out.decoder,
+        };
+        match edit {
+            Put(_, line, column, cut, put) => {
+                let at = start(text, *line) + column - 1;
+                text.replace_range(at..at + cut, put);
+            }
+            Swap(_, number) => {
+                let (at, end) = (start(text, *number), start(text, number + 2));
+                let both = format!("{}\n{}\n", line(text, number + 1), line(text, *number));
+                text.replace_range(at..end, &both);
+            }
+        }
+    }
+    out
+}
+
+/// The lines in which two texts differ, the old ones and the new ones.
+fn changed(old: &str, new: &str) -> String {
+    let (a, b): (Vec<&str>, Vec<&str>) = (old.lines().collect(), new.lines().collect());
+    let head = a.iter().zip(&b).take_while(|(x, y)| x == y).count();
+    let tail = a[head..].iter().rev().zip(b[head..].iter().rev()).take_while(|(x, y)| x == y).count();
+    let told = |sign: char, lines: &[&str]| lines[head..lines.len() - tail].iter().map(|l| format!("{sign} {l}\n")).collect::<String>();
+    told('-', &a) + &told('+', &b)
+}
+
+/// Writes one program a slip into the folder, numbered, with its name and what was changed beside it; 00 is the Rust unchanged.
 pub fn write(folder: &Path) {
     let from = std::env::var("SILLBROOK_RUST_SRC").unwrap_or_default();
     let given = Given::read(Path::new(&from)).unwrap_or_else(|why| crate::stop(2, &why));
     let mut all = vec![("the Rust unchanged".to_string(), given.clone())];
     for (name, edits) in SLIPS {
-        let mut altered = given.clone();
-        for (which, find, with) in *edits {
-            let text = match which {
-                Parser => &mut altered.parser,
-                Decoder => &mut altered.decoder,
-            };
-            *text = replaced(text, find, with, name).unwrap_or_else(|why| crate::stop(1, &why));
-        }
-        all.push((name.to_string(), altered));
+        all.push((name.to_string(), edited(&given, edits)));
     }
+    let call = line(&given.parser, CALL);
     for (name, outcome, then) in AFTER {
-        let head = CALL.replace("parse_frame", "inner").replace("pub fn", "fn");
-        let wrap = format!(
-            "{CALL}\n let old = self.clone();\n let r = self.inner(bitstream);\n if matches!(r, {outcome}) {{ {then} }}\n let _ = old;\n r\n }}\n {head}"
-        );
-        let parser = replaced(&given.parser, CALL, &wrap, name).unwrap_or_else(|why| crate::stop(1, &why));
+        let head = call.replace("parse_frame", "inner").replace("pub fn", "fn");
+        let body = format!("let old = self.clone();\n let r = self.inner(bitstream);\n if matches!(r, {outcome}) {{ {then} }}");
+        let wrap = format!("{call}\n {body}\n let _ = old;\n r\n }}\n{head}");
+        let mut parser = given.parser.clone();
+        let at = start(&parser, CALL);
+        parser.replace_range(at..at + call.len(), &wrap);
         all.push((name.to_string(), Given { parser, ..given.clone() }));
     }
     for (i, (name, altered)) in all.iter().enumerate() {
@@ -214,5 +266,6 @@ pub fn write(folder: &Path) {
         };
         put("rs", &program(altered));
         put("name", name);
+        put("change", &(changed(&given.decoder, &altered.decoder) + &changed(&given.parser, &altered.parser)));
     }
 }
