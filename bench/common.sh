@@ -115,5 +115,5 @@ ratio() { # WHAT OF UNIT OURS RUST
         echo "time: not measured, since the program runs in an emulator here"
         return
     fi
-    run time | awk '{ printf "time on this machine: %.0f ns a frame, the Rust %.0f, ratio %.3f (each the best of %d rounds, turn about)\n", $1, $2, $1 / $2, $3 }'
+    run time | awk '{ printf "time on this machine: %.0f ns a frame, the Rust %.0f, ratio %.3f (of each frame the best of %d rounds, turn about)\n", $1, $2, $1 / $2, $3 }'
 }

@@ -7,8 +7,8 @@ use std::hint::black_box;
 use std::path::Path;
 use std::time::Instant;
 
-/// How often each side goes over all frames; the best round counts.
-const ROUNDS: usize = 25;
+/// How often each side goes over all frames; of each frame the best time counts, so that other work on the machine has little say.
+const ROUNDS: usize = 40;
 
 /// Every frame of every recording of a folder, with the name of its recording.
 pub fn frames(folder: &str) -> Vec<(String, Vec<u8>)> {
@@ -19,18 +19,18 @@ pub fn frames(folder: &str) -> Vec<(String, Vec<u8>)> {
     all.into_iter().flat_map(|r| r.frames.into_iter().map(move |f| (r.path.display().to_string(), f))).collect()
 }
 
-/// Prints the nanoseconds that each side takes for one of the inputs, in the best of the rounds; the sides take turns.
+/// Prints the nanoseconds that each side takes for one of the inputs, on average over their best times; the sides take turns.
 pub fn times(inputs: &[&[u8]], port: fn(&[u8]) -> u64, rust: fn(&[u8]) -> u64) {
-    let mut best = [f64::MAX; 2];
+    let mut best = [vec![u128::MAX; inputs.len()], vec![u128::MAX; inputs.len()]];
     for _ in 0..ROUNDS {
         for (side, call) in [port, rust].into_iter().enumerate() {
-            let begun = Instant::now();
-            for input in inputs {
+            for (input, best) in inputs.iter().zip(&mut best[side]) {
+                let begun = Instant::now();
                 black_box(call(black_box(input)));
+                *best = begun.elapsed().as_nanos().min(*best);
             }
-            best[side] = best[side].min(begun.elapsed().as_nanos() as f64);
         }
     }
-    let each = |ns: f64| ns / inputs.len() as f64;
-    println!("{:.1} {:.1} {ROUNDS}", each(best[0]), each(best[1]));
+    let each = |side: usize| best[side].iter().sum::<u128>() as f64 / inputs.len() as f64;
+    println!("{:.1} {:.1} {ROUNDS}", each(0), each(1));
 }

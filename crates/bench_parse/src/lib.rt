@@ -1,74 +1,78 @@
 // What bench/parse measures: a frame parsed by a fresh parser. It is exported for a host program.
+use bench_sum::bytes;
+use bench_sum::fold;
+use bench_sum::words;
+use vp8_flat::bit;
+use vp8_flat::byte_of;
 use vp8_records::CoeffProbs;
 use vp8_records::Header;
 use vp8_records::MbLfAdjustments;
+use vp8_records::ModeProbs;
 use vp8_records::MvProbs;
 use vp8_records::Parsed;
 use vp8_records::Parser;
-use vp8_records::QuantIndices;
 use vp8_records::Segmentation;
+ghost use mathlib.Core.Path.{_≡_};
+ghost use mathlib.Core.List.{map};
+ghost use lib.ListN.{take};
+ghost use mir.Val.{ofZ};
+ghost use mir.Syntax.{w8};
+ghost use Rattle.bench_sum.specs.Sum.{folded, folds};
+ghost use Rattle.vp8_flat.specs.Bytes.{segmentationBytes, adjustmentBytes};
+ghost use Rattle.vp8_records.specs.Start.{fresh};
+ghost use Rattle.rfc6386.specs.Call.{call};
+ghost use Rattle.bench_parse.specs.Numbers.{coefficientAt, motionAt, sample, frontNumbers, backNumbers, headerNumbers, keptNumbers, sumOf};
 
-// Folds one more number into a sum, so that other numbers, or the same in another order, give another sum.
-fn fold(sum: u64, number: u64) -> u64 {
-    ((sum << 5) | (sum >> 59)) ^ number
-}
-
-fn flag(sum: u64, set: bool) -> u64 {
-    if set { fold(sum, 1) } else { fold(sum, 0) }
-}
-
-fn byte(sum: u64, number: u8) -> u64 {
+fn byte(sum: u64, number: u8) -> u64
+    ensures { λ r. ⌜ r ≡ folded sum number ⌝ }
+{
     fold(sum, number as u64)
 }
 
-fn word(sum: u64, number: u32) -> u64 {
-    fold(sum, number as u64)
+// Signed numbers, each as its two's complement byte.
+fn ints(sum: u64, numbers: [i8; 4]) -> u64
+    ensures { λ r. ⌜ r ≡ folds sum (map (ofZ w8) numbers) ⌝ }
+{
+    let mut all = sum;
+    let mut i = 0;
+    while i < 4 {
+        all = byte(all, byte_of(numbers[i]));
+        i += 1;
+    }
+    all
 }
 
-// A signed number by its sign.
-fn int(sum: u64, number: i8) -> u64 {
-    flag(flag(sum, number < 0), 0 < number)
-}
-
-fn four_ints(sum: u64, v: [i8; 4]) -> u64 {
-    let two = int(int(sum, v[0]), v[1]);
-    int(int(two, v[2]), v[3])
-}
-
-fn quant(sum: u64, q: QuantIndices) -> u64 {
-    let luma = int(byte(sum, q.y_ac_qi), q.y_dc_delta);
-    let second = int(int(luma, q.y2_dc_delta), q.y2_ac_delta);
-    int(int(second, q.uv_dc_delta), q.uv_ac_delta)
-}
-
-fn segmentation(sum: u64, s: Segmentation) -> u64 {
-    let flags = flag(
-        flag(sum, s.segmentation_enabled),
-        s.update_mb_segmentation_map,
-    );
-    let mode = flag(
-        flag(flags, s.update_segment_feature_data),
-        s.segment_feature_mode,
-    );
+fn segmentation(sum: u64, s: Segmentation) -> u64
+    ensures { λ r. ⌜ r ≡ folds sum (segmentationBytes s) ⌝ }
+{
+    let flags = [
+        bit(s.segmentation_enabled),
+        bit(s.update_mb_segmentation_map),
+        bit(s.update_segment_feature_data),
+        bit(s.segment_feature_mode),
+    ];
     let quantizers = s.quantizer_update_value;
     let levels = s.lf_update_value;
     let probs = s.segment_prob;
-    let values = four_ints(four_ints(mode, quantizers), levels);
-    byte(byte(byte(values, probs[0]), probs[1]), probs[2])
+    bytes(ints(ints(bytes(sum, &flags), quantizers), levels), &probs)
 }
 
-fn adjustments(sum: u64, a: MbLfAdjustments) -> u64 {
-    let flags = flag(
-        flag(sum, a.loop_filter_adj_enable),
-        a.mode_ref_lf_delta_update,
-    );
+fn adjustments(sum: u64, a: MbLfAdjustments) -> u64
+    ensures { λ r. ⌜ r ≡ folds sum (adjustmentBytes a) ⌝ }
+{
+    let flags = [
+        bit(a.loop_filter_adj_enable),
+        bit(a.mode_ref_lf_delta_update),
+    ];
     let frames = a.ref_frame_delta;
     let modes = a.mb_mode_delta;
-    four_ints(four_ints(flags, frames), modes)
+    ints(ints(bytes(sum, &flags), frames), modes)
 }
 
 // One probability, at a place that only the frame tells, so that none can be left out.
-fn coefficient(sum: u64, c: CoeffProbs, place: u32) -> u64 {
+fn coefficient(c: CoeffProbs, place: u32) -> u8
+    ensures { λ r. ⌜ r ≡ coefficientAt c place ⌝ }
+{
     let i = (place % 4) as usize;
     let j = (place / 4 % 8) as usize;
     let k = (place / 32 % 3) as usize;
@@ -76,90 +80,88 @@ fn coefficient(sum: u64, c: CoeffProbs, place: u32) -> u64 {
     let bands = c.v[i];
     let contexts = bands.v[j];
     let tokens = contexts.v[k];
-    byte(sum, tokens.v[l])
+    tokens.v[l]
 }
 
-fn motion(sum: u64, m: MvProbs, place: u32) -> u64 {
+fn motion(m: MvProbs, place: u32) -> u8
+    ensures { λ r. ⌜ r ≡ motionAt m place ⌝ }
+{
     let i = (place % 2) as usize;
     let j = (place / 2 % 19) as usize;
     let context = m.v[i];
-    byte(sum, context.v[j])
+    context.v[j]
 }
 
-fn sizes(sum: u64, v: [u32; 8]) -> u64 {
-    let four = word(word(word(word(sum, v[0]), v[1]), v[2]), v[3]);
-    word(word(word(word(four, v[4]), v[5]), v[6]), v[7])
-}
-
-fn chunk(sum: u64, h: Header) -> u64 {
-    let tag = flag(byte(flag(sum, h.key_frame), h.version), h.show_frame);
-    let size = word(byte(tag, h.data_chunk_size), h.first_part_size);
-    let frame = fold(fold(size, h.width as u64), h.height as u64);
-    byte(byte(frame, h.horiz_scale_code), h.vert_scale_code)
-}
-
-// Where the reads ended. The bools are not among these numbers: the Rust does not count them.
-fn end(sum: u64, h: Header) -> u64 {
-    let state = byte(byte(byte(sum, h.bd_range), h.bd_value), h.bd_count);
-    let parts = h.partition_size;
-    sizes(word(state, h.header_size), parts)
-}
-
-fn coded(sum: u64, h: Header) -> u64 {
-    let first = flag(
-        flag(flag(sum, h.color_space), h.clamping_type),
-        h.filter_type,
-    );
-    let level = byte(byte(first, h.loop_filter_level), h.sharpness_level);
-    let indices = h.quant_indices;
-    let second = quant(level, indices);
-    let refresh = flag(flag(second, h.refresh_entropy_probs), h.refresh_last);
-    let buffers = flag(
-        flag(refresh, h.refresh_golden_frame),
-        h.refresh_alternate_frame,
-    );
-    let copies = byte(
-        byte(buffers, h.copy_buffer_to_golden),
-        h.copy_buffer_to_alternate,
-    );
-    let biases = flag(flag(copies, h.sign_bias_golden), h.sign_bias_alternate);
-    let skip = byte(flag(biases, h.mb_no_coeff_skip), h.prob_skip_false);
-    byte(byte(byte(skip, h.prob_intra), h.prob_last), h.prob_golden)
-}
-
-fn shown(sum: u64, h: Header, place: u32) -> u64 {
-    let coefficients = h.coeff_prob;
-    let vectors = h.mv_prob;
-    let modes = h.mode_probs;
+// Of each group of probabilities one or two; a mode probability by its index.
+fn probs(sum: u64, c: CoeffProbs, m: MvProbs, modes: ModeProbs, place: u32) -> u64
+    ensures { λ r. ⌜ r ≡ folds sum (sample c m modes place) ⌝ }
+{
     let luma = modes.intra_16x16_prob;
     let chroma = modes.intra_chroma_prob;
-    let probs = motion(coefficient(sum, coefficients, place), vectors, place);
-    byte(byte(probs, luma[1]), chroma[2])
+    let picked = [coefficient(c, place), motion(m, place)];
+    bytes(bytes(bytes(sum, &picked), &luma), &chroma)
 }
 
-fn kept(sum: u64, p: Parser, place: u32) -> u64 {
+// The snapshot and the position.
+fn end(sum: u64, tail: [u32; 7]) -> u64
+    ensures { λ r. ⌜ r ≡ folds sum (take 4 tail) ⌝ }
+{
+    words(sum, &tail[..4])
+}
+
+fn front(sum: u64, h: Header) -> u64
+    ensures { λ r. ⌜ r ≡ folds sum (frontNumbers h) ⌝ }
+{
+    let shape = vp8_flat::header::shape(h);
+    let sizes = h.partition_size;
+    let indices = h.quant_indices;
+    let quantizers = vp8_flat::header::quantizers(indices);
+    words(words(words(sum, &shape), &sizes), &quantizers)
+}
+
+fn back(sum: u64, h: Header) -> u64
+    ensures { λ r. ⌜ r ≡ folds sum (backNumbers h) ⌝ }
+{
+    let flags = vp8_flat::header::flags(h);
+    let tail = vp8_flat::header::tail(h);
+    end(words(sum, &flags), tail)
+}
+
+fn header(sum: u64, h: Header) -> u64
+    ensures { λ r. ⌜ r ≡ folds sum (headerNumbers h) ⌝ }
+{
+    let numbers = back(front(sum, h), h);
+    let coeff_prob = h.coeff_prob;
+    let mv_prob = h.mv_prob;
+    let mode_probs = h.mode_probs;
+    probs(numbers, coeff_prob, mv_prob, mode_probs, h.header_size)
+}
+
+fn kept(sum: u64, p: Parser, place: u32) -> u64
+    ensures { λ r. ⌜ r ≡ folds sum (keptNumbers p place) ⌝ }
+{
     let segments = p.segmentation;
     let deltas = p.mb_lf_adjust;
-    let coefficients = p.coeff_prob;
-    let vectors = p.mv_prob;
-    let modes = p.mode_probs;
-    let luma = modes.intra_16x16_prob;
-    let chroma = modes.intra_chroma_prob;
+    let coeff_prob = p.coeff_prob;
+    let mv_prob = p.mv_prob;
+    let mode_probs = p.mode_probs;
     let records = adjustments(segmentation(sum, segments), deltas);
-    let probs = motion(coefficient(records, coefficients, place), vectors, place);
-    byte(byte(probs, luma[2]), chroma[1])
+    probs(records, coeff_prob, mv_prob, mode_probs, place)
 }
 
-fn number(answer: Parsed) -> u64 {
+fn number(answer: Parsed) -> u64
+    ensures { λ r. ⌜ r ≡ sumOf answer ⌝ }
+{
     let outcome = answer.outcome;
-    let header = answer.header;
+    let h = answer.header;
     let parser = answer.parser;
-    let place = header.header_size;
-    let read = coded(chunk(outcome.number() as u64, header), header);
-    kept(shown(end(read, header), header, place), parser, place)
+    kept(header(outcome.number() as u64, h), parser, h.header_size)
 }
 
+// The sum over a fresh parser's answer to the frame.
 #[no_mangle]
-pub extern "C" fn bench_parse_frame(bytes: &[u8]) -> u64 {
+pub extern "C" fn bench_parse_frame(bytes: &[u8]) -> u64
+    ensures { λ r. ⌜ r ≡ sumOf (call fresh (now (bytes .entry))) ⌝ }
+{
     number(vp8_parser::parse(Parser::new(), bytes))
 }

@@ -1,4 +1,4 @@
--- Past the end every byte is 0, so the numbers made of them are. Assumes nothing.
+-- Past the end every byte is 0, so the numbers made of them are: byte by byte.
 use Prim.Native.Nat.{ℕ, _+_, _≤_}
 use native.Mathlib.Omega.{arith}
 use mathlib.Core.Path.{_≡_}

@@ -1,5 +1,5 @@
 -- How reads are put together: a law for a step, one for the end, one for a wider bound, one for the room after a read, two for a flag.
--- Each is one step of `run`. Assumes nothing.
+-- Each is one step of `run`.
 use Prim.Native.Nat.{ℕ, _+_, _≤_}
 use native.Mathlib.Omega.{arith}
 use mathlib.Core.Path.{_≡_, refl, ap, _∙_}
@@ -14,7 +14,8 @@ use Rattle.bool_decoder.specs.declared.BoolDecoder.{BoolDecoder}
 
 module _ {A B : Type 0} {area : List ℕ} where
   -- first m, then what f makes of its value
-  pub then : {m : Rd A} (f : A → Rd B) {d d₁ d₂ : BoolDecoder} {a : A} {b : B} {j k : ℕ} → Ran m area d a d₁ j → Ran (f a) area d₁ b d₂ k → Ran (m >>= f) area d b d₂ (j + k)
+  pub then : {m : Rd A} (f : A → Rd B) {d d₁ d₂ : BoolDecoder} {a : A} {b : B} {j k : ℕ} → Ran m area d a d₁ j → Ran (f a) area d₁ b d₂ k
+      → Ran (m >>= f) area d b d₂ (j + k)
   then {m} f {d} p q = record {
     is =
         run-bind m f (bits area) (stateOf area d) ∙ ap (λ (o : Out A). run (f (o .got)) (bits area) (o .then)) (p .is)
@@ -37,7 +38,8 @@ module _ {A : Type 0} {area : List ℕ} where
   after k p g = record { over = p .over; room = omega (arith, p .most, g .room) }
 
   -- a read under a flag that is set, and one under a flag that isn't
-  pub on : {m : Rd A} {b : Bool} (x : A) {d d₁ : BoolDecoder} {a : A} {k : ℕ} → b ≡ true → Ran m area d a d₁ k → Ran (when b m x) area d a d₁ k
+  pub on : {m : Rd A} {b : Bool} (x : A) {d d₁ : BoolDecoder} {a : A} {k : ℕ} → b ≡ true → Ran m area d a d₁ k
+      → Ran (when b m x) area d a d₁ k
   unfolding when
   on x e p = rw e p
 

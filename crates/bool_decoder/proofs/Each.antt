@@ -1,8 +1,8 @@
 -- A loop that reads each element of a list anew: what holds at its head, once for every element type, read and length. A turn adds one
--- element at the end of the tree that is done. Assumes nothing.
+-- element at the end of the tree that is done.
 use Prim.Native.Nat.{ℕ, suc, _+_, _*_, _≤_, _<_}
 use native.Mathlib.Omega.{arith}
-use native.Mathlib.Nat.{add-zero, zero-add, add-suc, suc-add, mul-zero, mul-suc}
+use native.Mathlib.Nat.{add-zero, zero-add, add-suc, suc-add, mul-zero, mul-suc, mul-le-mul-left}
 use native.Mathlib.Numerals.{add-one}
 use mathlib.Core.Path.{_≡_, refl, ap, sym, _∙_, subst}
 use mathlib.Core.List.{List, [], _∷_, _++_, map}
@@ -12,7 +12,7 @@ use Rattle.rfc6386.specs.Reads.{Rd, ret, _>>=_}
 use Rattle.rfc6386.proofs.Trees.{assoc}
 use Rattle.bool_decoder.specs.InPlace.{eachAt}
 use Rattle.bool_decoder.specs.Window.{Over}
-use Rattle.bool_decoder.specs.Model.{Ran}
+use Rattle.bool_decoder.specs.Model.{Good, Ran}
 use Rattle.bool_decoder.specs.declared.BoolDecoder.{BoolDecoder}
 use Rattle.bool_decoder.proofs.Chain.{then, done}
 
@@ -22,7 +22,8 @@ length-mapped X Y f l n p = sym (length-map l f) ∙ p
 
 module _ {A : Type 0} (f : ℕ → A → Rd A) where
   -- one element more at the end
-  snoc : (i : ℕ) (xs : List A) (x : A) → eachAt f i (xs ++ (x ∷ [])) ≡ eachAt f i xs >>= (λ ys. f (i + length xs) x >>= (λ y. ret (ys ++ (y ∷ []))))
+  snoc : (i : ℕ) (xs : List A) (x : A)
+      → eachAt f i (xs ++ (x ∷ [])) ≡ eachAt f i xs >>= (λ ys. f (i + length xs) x >>= (λ y. ret (ys ++ (y ∷ []))))
   unfolding eachAt _>>=_
   snoc i [] x = ap (λ (n : ℕ). f n x >>= (λ y. ret (y ∷ []))) (sym (add-zero i))
   snoc i (a ∷ xs) x = simp (snoc (suc i) xs x, assoc, add-suc, suc-add)
@@ -37,6 +38,14 @@ module _ {A : Type 0} (f : ℕ → A → Rd A) where
   pub begin : {area : List ℕ} {k : ℕ} {d₀ : BoolDecoder} {xs : List A} → Over area d₀ → Turn area k d₀ xs xs d₀ 0
   unfolding eachAt
   begin {k} {xs} o = record { count = omega arith; same = refl; rest = refl; ran = rw (mul-zero k) (done o) }
+
+  -- a turn's bools are counted in the loop's own room
+  pub room : {area : List ℕ} {k : ℕ} {d₀ : BoolDecoder} {xs now : List A} {d : BoolDecoder} {i n : ℕ}
+      → Turn area k d₀ xs now d i → i < n → Good area d₀ (k * n) → Good area d k
+  room {k} {i} {n} t h g = record {
+    over = t .ran .over;
+    room = omega (arith, t .ran .most, g .room, mul-suc k i, mul-le-mul-left k h);
+  }
 
   pub turn : (z : A) {area : List ℕ} {k : ℕ} {d₀ : BoolDecoder} {xs now : List A} {d : BoolDecoder} {i : ℕ} {y : A} {d' : BoolDecoder}
       → Turn area k d₀ xs now d i → i < length xs → Ran (f i (getD now i z)) area d y d' k → Turn area k d₀ xs (set now i y) d' (i + 1)

@@ -1,9 +1,10 @@
 -- A window of m + 8 bits against V: what a comparison, a subtraction, a shift and a byte do to it. Plain numbers, for every width:
 -- b is 2 ^ bits, e the free bits at the window's low end, x the bytes still to come. Each law clears denominators and compares multiples.
--- Assumes nothing.
 use mathlib.Core.Path.{_≡_, sym, ap, _∙_, subst}
 use Prim.Native.Nat.{ℕ, _+_, _-_, _*_, _/_, _%_, _^_, _≤_, _<_}
-use native.Mathlib.Nat.{add-mul, mul-assoc, mul-comm, mul-right-comm, mul-left-comm, mul-le-mul-right, mul-lt-mul-of-pos-right, le-of-mul-le-mul-right, lt-of-mul-lt-mul-right, mul-sub, mod-lt, div-add-mod', div-mul-le-self, lt-div-mul-add, div-eq-of-lt-le, sub-add-cancel, suc-mul, mul-mod-left, add-zero, one-mul}
+use native.Mathlib.Nat.{add-mul, mul-assoc, mul-comm, mul-right-comm, mul-left-comm, mul-sub, suc-mul, add-zero, one-mul, sub-add-cancel}
+use native.Mathlib.Nat.{mul-le-mul-right, mul-lt-mul-of-pos-right, le-of-mul-le-mul-right, lt-of-mul-lt-mul-right}
+use native.Mathlib.Nat.{mod-lt, mul-mod-left, div-add-mod', div-mul-le-self, lt-div-mul-add, div-eq-of-lt-le}
 use native.Mathlib.Omega.{arith}
 use lib.Arith.{digits-mod}
 use lib.Pow.{pow-pos, pow-add, mod-pow-add, shl-shr}
@@ -44,7 +45,8 @@ top : (m b : ℕ) → 2 ^ (m + 8) * b ≡ 256 * b * 2 ^ m
 top m b = ap (λ (i : ℕ). i * b) (pow-add 2 m 8 ∙ mul-comm (2 ^ m) 256) ∙ mul-right-comm 256 (2 ^ m) b
 
 -- the exact equation after a shift, up to multiples of the modulus: p of them are dropped from V, q from the window
-shift-exact : (m b x v w e k p v' q w' : ℕ) → v * 2 ^ m ≡ w * b + x * 2 ^ e → p * (256 * b) + v' ≡ v * 2 ^ k → q * 2 ^ (m + 8) + w' ≡ w * 2 ^ k
+shift-exact : (m b x v w e k p v' q w' : ℕ) → v * 2 ^ m ≡ w * b + x * 2 ^ e
+    → p * (256 * b) + v' ≡ v * 2 ^ k → q * 2 ^ (m + 8) + w' ≡ w * 2 ^ k
     → p * (2 ^ (m + 8) * b) + v' * 2 ^ m ≡ q * (2 ^ (m + 8) * b) + (w' * b + x * 2 ^ (e + k))
 shift-exact m b x v w e k p v' q w' ex hp hq =
     omega (
@@ -131,14 +133,16 @@ module _ (m b e x v w : ℕ) (H : Holds m b e x v w) (bx : x < b) where
       below (2 ^ (m + 8)) b x w' (2 ^ (e + k)) bx (pow-pos (e + k)) (rw lows (room h j (e + k) (m + 8) (sub-add-cancel le))) in
       record {
         exact = sym (digits-mod p fit1)
-            ∙ ap (λ (i : ℕ). i % n) (shift-exact m b x v w e k p v' q w' (H .exact) (div-add-mod' (v * 2 ^ k) (256 * b)) (div-add-mod' (w * 2 ^ k) (2 ^ (m + 8))))
+            ∙ ap (λ (i : ℕ). i % n)
+            (shift-exact m b x v w e k p v' q w' (H .exact) (div-add-mod' (v * 2 ^ k) (256 * b)) (div-add-mod' (w * 2 ^ k) (2 ^ (m + 8))))
             ∙ digits-mod q fit2;
         zeros = (h % 2 ^ j, lows);
         small = mod-lt (w * 2 ^ k) (pow-pos (m + 8));
       }
 
 -- a byte y into eight free bits; x' is still to come
-pub take-byte : (m b e x v w : ℕ) → Holds m b (e + 8) x v w → e ≤ m → (y x' : ℕ) → y < 256 → x * 256 ≡ y * b + x' → Holds m b e x' v (w + y * 2 ^ e)
+pub take-byte : (m b e x v w : ℕ) → Holds m b (e + 8) x v w → e ≤ m → (y x' : ℕ) → y < 256 → x * 256 ≡ y * b + x'
+    → Holds m b e x' v (w + y * 2 ^ e)
 take-byte m b e x v w H le y x' hy step =
     let h = H .zeros .0 in
     record {

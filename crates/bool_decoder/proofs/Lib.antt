@@ -1,10 +1,14 @@
--- Chain and Each are what callers build their proofs from; Sequence is the promise; Same says that no contract leaves a choice.
+-- Chain, Each, Made and Quiet are what callers build their proofs from; Sequence is the promise; Same says that no contract leaves a
+-- choice.
 pub mod Laws
 pub mod Stream
 pub mod Normal
 pub mod Over
 pub mod Chain
 pub mod Each
+pub mod Made
+pub mod Quiet
+pub mod Signs
 pub mod Literal
 pub mod Limits
 pub mod Same

@@ -17,7 +17,8 @@ record Within (width wanted n : ℕ) : Type 0 where
   narrow : width ≤ 31
   few : n + wanted ≤ 16777216
 
-go : (w k n : ℕ) (a b c e : Bool) → ltb 31 w ≡ b → ltb 16777216 (n + k) ≡ e → pick {A = ℕ} a 6 (pick b 7 (pick c 4 (pick e 8 0))) ≡ 0 → Within w k n
+go : (w k n : ℕ) (a b c e : Bool) → ltb 31 w ≡ b → ltb 16777216 (n + k) ≡ e
+    → pick {A = ℕ} a 6 (pick b 7 (pick c 4 (pick e 8 0))) ≡ 0 → Within w k n
 go w k n true b c e ew en z = absurd (omega arith)
 go w k n false true c e ew en z = absurd (omega arith)
 go w k n false false true e ew en z = absurd (omega arith)

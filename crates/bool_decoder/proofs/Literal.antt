@@ -1,4 +1,4 @@
--- A literal's loop: reading the bools that are left, from here, gives what reading all of them gives. Assumes nothing.
+-- A literal's loop: reading the bools that are left, from here, gives what reading all of them gives.
 use mathlib.Core.Path.{_≡_, sym, ap, _∙_}
 use mathlib.Core.Bool.{Bool, true, false}
 use mathlib.Core.List.{List}

@@ -1,7 +1,8 @@
--- Doubling until R is 128 or more is one shift, by any k that brings R there. By induction on the doublings. Assumes nothing.
+-- Doubling until R is 128 or more is one shift, by any k that brings R there. By induction on the doublings.
 use mathlib.Core.Path.{_≡_, refl, sym, ap, _∙_}
 use Prim.Native.Nat.{ℕ, zero, suc, _+_, _*_, _/_, _%_, _^_, _≤_, _<_}
-use native.Mathlib.Nat.{mul-assoc, mul-comm, mul-right-comm, mul-one, pow-suc, mod-eq-of-lt, mod-lt, add-zero, le-mul-of-pos-right, mul-add-mod-self-right, add-mul, div-add-mod', not-suc-le-zero, le-of-suc-le-suc}
+use native.Mathlib.Nat.{mul-assoc, mul-comm, mul-right-comm, mul-one, add-mul, add-zero, pow-suc, mod-eq-of-lt, mod-lt, div-add-mod'}
+use native.Mathlib.Nat.{le-mul-of-pos-right, mul-add-mod-self-right, not-suc-le-zero, le-of-suc-le-suc}
 use native.Mathlib.Omega.{arith}
 use borrow.Author.Tests.{le-leb, lt-leb}
 use lib.Pow.{pow-pos}
@@ -42,7 +43,8 @@ shifted-suc l k s = λ i. record {
   n = s .n;
 }
 
-pub normal-is : (f l k : ℕ) (s : State) → k ≤ f → 128 ≤ s .r * 2 ^ k → s .r * 2 ^ k < 256 → s .v < 2 ^ (l + 8) → normal f l s ≡ shifted l k s
+pub normal-is : (f l k : ℕ) (s : State) → k ≤ f → 128 ≤ s .r * 2 ^ k → s .r * 2 ^ k < 256 → s .v < 2 ^ (l + 8)
+    → normal f l s ≡ shifted l k s
 unfolding normal double
 normal-is zero l zero s h lo hi small = still l s small
 normal-is zero l (suc k) s h lo hi small = absurd (not-suc-le-zero h)

@@ -1,5 +1,5 @@
 -- A decoder over an area, from the window's laws to the contract of one bool. A read first takes the split off, or makes it the range
--- (Chosen); then the doublings are one shift, which fill does, or none. Assumes nothing.
+-- (Chosen); then the doublings are one shift, which fill does, or none.
 use mathlib.Core.Path.{_≡_, refl, sym, ap, _∙_}
 use mathlib.Core.List.{List}
 use mathlib.Core.Bool.{Bool, true, false}
@@ -44,7 +44,8 @@ top : (l : ℕ) → 256 * 2 ^ l ≡ 2 ^ (l + 8)
 top l = mul-comm 256 (2 ^ l) ∙ sym (pow-add 2 l 8)
 
 -- the fresh decoder: its window is the first eight bytes
-pub fresh : (area : List ℕ) (w at : ℕ) → at ≡ 8 → w < 256 ^ at → w * 2 ^ bits area + rest area at ≡ number area * 256 ^ at → ((i : ℕ) → getD area i 0 < 256)
+pub fresh : (area : List ℕ) (w at : ℕ) → at ≡ 8 → w < 256 ^ at → w * 2 ^ bits area + rest area at ≡ number area * 256 ^ at
+    → ((i : ℕ) → getD area i 0 < 256)
     → Fresh area (record { range = 255; limit = limitOf w; value = w; doublings = 0; bools = 0 })
 unfolding start
 fresh area w at is8 small whole bytes =

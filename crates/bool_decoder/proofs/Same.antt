@@ -1,5 +1,5 @@
 -- Any two answers that a contract admits are equal. A decoder over an area is a function of its state, since the window is what is left of
--- V when the bytes to come are taken off; so two runs of one tree leave the same decoder. Assumes nothing.
+-- V when the bytes to come are taken off; so one tree leaves one decoder.
 use mathlib.Core.Path.{_≡_, sym, ap, _∙_}
 use mathlib.Core.Bool.{Bool}
 use mathlib.Core.List.{List}
@@ -18,6 +18,8 @@ use Rattle.bool_decoder.specs.declared.BoolDecoderState.{BoolDecoderStat
 use Rattle.bool_decoder.specs.declared.Bit.{Bit}
 use Rattle.bool_decoder.specs.declared.Uint.{Uint}
 use Rattle.bool_decoder.specs.declared.Sint.{Sint}
+use Rattle.bool_decoder.specs.declared.reads.Byte.{Byte}
+use Rattle.bool_decoder.specs.declared.reads.Int.{Int}
 use Rattle.bool_decoder.specs.declared.BoolAnswer.{BoolAnswer}
 use Rattle.bool_decoder.specs.declared.BoolAnswer.the-variants as B
 use Rattle.bool_decoder.specs.declared.UintAnswer.{UintAnswer}
@@ -77,25 +79,42 @@ module _ {A : Type 0} {m : Rd A} {area : List ℕ} {d : BoolDecoder} {a b : A} {
   pub same-decoder : Ran m area d a e j → Ran m area d b f k → e ≡ f
   same-decoder p q = same (p .over) (q .over) (ap (λ (o : Out A). o .then) (sym (p .is) ∙ q .is))
 
--- read_bit and read_flag
-pub same-bit : {m : Rd Bool} {area : List ℕ} {d : BoolDecoder} {r q : Bit} → Ran m area d (r .bit) (r .dec) 1 → Ran m area d (q .bit) (q .dec) 1 → r ≡ q
-same-bit p s = λ i. record { bit = same-value p s i; dec = same-decoder p s i }
+-- one law for every record of a value and the decoder after it
+pub same-read : {A S : Type 0} (both : A → BoolDecoder → S) {m : Rd A} {area : List ℕ} {d : BoolDecoder} {a b : A}
+    {e f : BoolDecoder} {j k : ℕ} → Ran m area d a e j → Ran m area d b f k → both a e ≡ both b f
+same-read both p q i = both (same-value p q i) (same-decoder p q i)
 
--- read_literal and read_signed
-same-uint : {m : Rd ℕ} {area : List ℕ} {d : BoolDecoder} {r q : Uint} {k : ℕ} → Ran m area d (r .value) (r .dec) k → Ran m area d (q .value) (q .dec) k → r ≡ q
-same-uint p s = λ i. record { value = same-value p s i; dec = same-decoder p s i }
+module _ {area : List ℕ} {d : BoolDecoder} where
+  -- read_bit, read_flag and flag_if
+  pub same-bit : {m : Rd Bool} {r q : Bit} → Ran m area d (r .bit) (r .dec) 1 → Ran m area d (q .bit) (q .dec) 1 → r ≡ q
+  same-bit = same-read (λ v e. record { bit = v; dec = e })
 
-same-sint : {m : Rd ℤ} {area : List ℕ} {d : BoolDecoder} {r q : Sint} {k : ℕ} → Ran m area d (r .value) (r .dec) k → Ran m area d (q .value) (q .dec) k → r ≡ q
-same-sint p s = λ i. record { value = same-value p s i; dec = same-decoder p s i }
+  -- read_literal and read_signed
+  same-uint : {m : Rd ℕ} {r q : Uint} {k : ℕ} → Ran m area d (r .value) (r .dec) k → Ran m area d (q .value) (q .dec) k → r ≡ q
+  same-uint = same-read (λ v e. record { value = v; dec = e })
 
-pub same-literal : {area : List ℕ} {w : ℕ} {d : BoolDecoder} {r q : Uint} → Lit area w d (r .value) (r .dec) → Lit area w d (q .value) (q .dec) → r ≡ q
-same-literal p s = same-uint (p .ran) (s .ran)
+  same-sint : {m : Rd ℤ} {r q : Sint} {k : ℕ} → Ran m area d (r .value) (r .dec) k → Ran m area d (q .value) (q .dec) k → r ≡ q
+  same-sint = same-read (λ v e. record { value = v; dec = e })
 
-pub same-signed : {area : List ℕ} {w : ℕ} {d : BoolDecoder} {r q : Sint} → Sgn area w d (r .value) (r .dec) → Sgn area w d (q .value) (q .dec) → r ≡ q
-same-signed p s = same-sint (p .ran) (s .ran)
+  pub same-literal : {w : ℕ} {r q : Uint} → Lit area w d (r .value) (r .dec) → Lit area w d (q .value) (q .dec) → r ≡ q
+  same-literal p s = same-uint (p .ran) (s .ran)
+
+  pub same-signed : {w : ℕ} {r q : Sint} → Sgn area w d (r .value) (r .dec) → Sgn area w d (q .value) (q .dec) → r ≡ q
+  same-signed p s = same-sint (p .ran) (s .ran)
+
+  -- byte_if and byte_or, read_byte, sint_or
+  pub same-byte : {m : Rd ℕ} {r q : Byte} {k : ℕ} → Ran m area d (r .value) (r .dec) k → Ran m area d (q .value) (q .dec) k → r ≡ q
+  same-byte = same-read (λ v e. record { value = v; dec = e })
+
+  pub same-read-byte : {w : ℕ} {r q : Byte} → Lit area w d (r .value) (r .dec) → Lit area w d (q .value) (q .dec) → r ≡ q
+  same-read-byte p s = same-byte (p .ran) (s .ran)
+
+  pub same-int : {m : Rd ℤ} {r q : Int} {k : ℕ} → Ran m area d (r .value) (r .dec) k → Ran m area d (q .value) (q .dec) k → r ≡ q
+  same-int = same-read (λ v e. record { value = v; dec = e })
 
 -- pos
-pub same-position : (area : List ℕ) (d : BoolDecoder) {r q : ℕ} → r ≡ position (bits area) (stateOf area d) → q ≡ position (bits area) (stateOf area d) → r ≡ q
+pub same-position : (area : List ℕ) (d : BoolDecoder) {r q : ℕ}
+    → r ≡ position (bits area) (stateOf area d) → q ≡ position (bits area) (stateOf area d) → r ≡ q
 same-position area d p s = p ∙ sym s
 
 -- snapshot
@@ -107,7 +126,8 @@ same-seen p s = λ i. record {
 }
 
 -- nothing is both refused and read
-torn : {A X : Type 0} {m : Rd A} {area : List ℕ} {d : BoolDecoder} {w k : ℕ} {a : A} {e : BoolDecoder} {n : ℕ} → Allows m area d w k a e → Refuses area d w k n → X
+torn : {A X : Type 0} {m : Rd A} {area : List ℕ} {d : BoolDecoder} {w k : ℕ} {a : A} {e : BoolDecoder} {n : ℕ}
+    → Allows m area d w k a e → Refuses area d w k n → X
 torn p q = absurd (omega (arith, p .free, q .is, q .some))
 
 -- read_bool and read_bool_with_prob

@@ -1,6 +1,6 @@
 -- The promise: whatever is read over one area, in whatever order, past its end too, values, position, snapshot and count are the
--- definition's. A walk is any sequence of reads, each of which met its contract and may depend on what came before. By induction on the walk.
--- Assumes nothing.
+-- definition's. A walk is any sequence of reads, each of which met its contract and may depend on what came before. By induction on the
+-- walk.
 use mathlib.Core.Path.{_≡_, sym, ap, _∙_}
 use mathlib.Core.List.{List}
 use Prim.Native.Nat.{ℕ, _+_}
@@ -18,7 +18,8 @@ pub data Walk {A : Type 0} (area : List ℕ) : Rd A → BoolDecoder → A → Bo
   read : {B : Type 0} {m : Rd B} (f : B → Rd A) {d d₁ d₂ : BoolDecoder} {b : B} {a : A} {k n : ℕ}
       → Ran m area d b d₁ k → Walk area (f b) d₁ a d₂ n → Walk area (m >>= f) d a d₂ (k + n)
 
-pub reads-agree : {A : Type 0} {m : Rd A} {area : List ℕ} {d : BoolDecoder} {a : A} {d' : BoolDecoder} {n : ℕ} → Over area d → Walk area m d a d' n → Ran m area d a d' n
+pub reads-agree : {A : Type 0} {m : Rd A} {area : List ℕ} {d : BoolDecoder} {a : A} {d' : BoolDecoder} {n : ℕ}
+    → Over area d → Walk area m d a d' n → Ran m area d a d' n
 reads-agree o stop = done o
 reads-agree o (read f q w) = then f q (reads-agree (q .over) w)
 
@@ -32,7 +33,8 @@ pub record Agrees {A : Type 0} (m : Rd A) (area : List ℕ) (a : A) (d : BoolDec
   pub count : seen .count ≡ countOf (run m (bits area) (start area) .then)
 
 -- `at` and `seen` are what pos and snapshot answer of the last decoder
-pub promise : {A : Type 0} {m : Rd A} {area : List ℕ} {d : BoolDecoder} {a : A} {d' : BoolDecoder} {n : ℕ} → Fresh area d → Walk area m d a d' n
+pub promise : {A : Type 0} {m : Rd A} {area : List ℕ} {d : BoolDecoder} {a : A} {d' : BoolDecoder} {n : ℕ}
+    → Fresh area d → Walk area m d a d' n
     → {at : ℕ} → at ≡ position (bits area) (stateOf area d') → {seen : BoolDecoderState} → Seen area d' seen → Agrees m area a d' at seen
 promise {A} {m} {area} {d} {a} {d'} f w at see =
     let p = reads-agree (f .over) w in

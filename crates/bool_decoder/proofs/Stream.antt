@@ -1,4 +1,4 @@
--- The bytes still to come, as a number: one byte less at each step, and 0 past the end. By induction on the area. Assumes nothing.
+-- The bytes still to come, as a number: one byte less at each step, and 0 past the end. By induction on the area.
 use mathlib.Core.Path.{_≡_, refl, sym, ap, _∙_, subst}
 use mathlib.Core.List.{List, [], _∷_}
 use Prim.Native.Nat.{ℕ, zero, suc, _+_, _*_, _^_, _<_}

@@ -1,4 +1,4 @@
--- NORM's rule: one test, computed over the whole table, and the rule at each entry from that. Assumes nothing.
+-- NORM's rule: one test, computed over the whole table, and the rule at each entry from that.
 use mathlib.Core.Path.{_∙_, subst, sym}
 use mathlib.Core.Bool.{Bool, true, false, _&&_}
 use mathlib.Core.List.{List, [], _∷_}

@@ -1,4 +1,5 @@
--- The tree of a loop that reads each element of a list anew, in its place. A device of proofs: the definition's own trees know no old values.
+-- The tree of a loop that reads each element of a list anew, in its place. A device of proofs: the definition's own trees know no old
+-- values.
 use Prim.Native.Nat.{ℕ, suc}
 use mathlib.Core.List.{List, [], _∷_}
 use Rattle.rfc6386.specs.Reads.{Rd, ret, _>>=_}

@@ -26,6 +26,10 @@ Held area c v w = Holds 56 (2 ^ bits area) (c % 8) (rest area (c / 8 + 8)) v w
 unfoldable pub vOf : List ℕ → ℕ → ℕ → ℕ
 vOf area c w = (w * 2 ^ bits area + rest area (c / 8 + 8) * 2 ^ (c % 8)) / 2 ^ 56
 
+-- what k doublings leave of it
+abbrev pub vAfter : List ℕ → ℕ → ℕ → ℕ → ℕ
+vAfter area c w k = vOf area c w * 2 ^ k % 2 ^ (bits area + 8)
+
 abbrev pub stateOf : List ℕ → BoolDecoder → State
 stateOf area d = record { v = vOf area (d .doublings) (d .value); r = d .range; c = d .doublings; n = d .bools }
 

@@ -4,35 +4,44 @@
 use bitstream_utils::byte_at;
 ghost use mathlib.Core.Path.{_≡_};
 ghost use mathlib.Core.Bool.{_&&_};
-ghost use Prim.Native.Nat.{_+_, _-_, _*_, _%_, _^_, _<_, _≤_};
+ghost use Prim.Native.Nat.{_+_, _-_, _*_, _^_, _<_, _≤_};
 ghost use Rattle.rfc6386.specs.Decoder.{bits, split, pick, refusalOf, position};
 ghost use Rattle.rfc6386.specs.Reads.{bool, flag, bit, signed};
-ghost use Rattle.bool_decoder.specs.Window.{Held, vOf, stateOf, limitOf, Over};
+ghost use Rattle.bool_decoder.specs.Window.{Held, vOf, vAfter, stateOf, limitOf, Over};
 ghost use Rattle.bool_decoder.specs.Model.{Good, Ran, Lit, Sgn, Fresh, Seen};
 ghost use Rattle.bool_decoder.specs.Answer.{BoolMeets, UintMeets, SintMeets};
 
 mod norm;
+pub mod reads;
+pub mod zeros;
 
-// The top 8 bits of `value` are the whole part of V. `limit` is a function of `value`, kept so that most bools need no window.
+// The state of RFC 6386 section 7.2 over an area. No other crate names its fields.
 pub struct BoolDecoder {
-    pub range: u32,
-    pub limit: u32,
-    pub value: u64,
-    pub doublings: u32,
-    pub bools: u32,
+    // R, from 128 to 255 between reads.
+    range: u32,
+    // A split of this or more tells a 0 by itself: a function of `value`, kept so that most bools need no window.
+    limit: u32,
+    // The window on V, whose whole part is its top 8 bits.
+    value: u64,
+    // How often R was doubled; it fixes how many bytes have come in.
+    doublings: u32,
+    // How many bools were read.
+    bools: u32,
 }
 
-// What was read, and the decoder after it.
+// A bool, and the decoder after it.
 pub struct Bit {
     pub bit: bool,
     pub dec: BoolDecoder,
 }
 
+// A literal, and the decoder after it.
 pub struct Uint {
     pub value: u32,
     pub dec: BoolDecoder,
 }
 
+// A signed literal, and the decoder after it.
 pub struct Sint {
     pub value: i32,
     pub dec: BoolDecoder,
@@ -40,22 +49,27 @@ pub struct Sint {
 
 // A capture of the decoder's state, for the next decoding step.
 pub struct BoolDecoderState {
+    // R.
     pub range: u8,
+    // The whole part of V.
     pub value: u8,
+    // How many bits of the byte that is being read are left.
     pub count: u8,
 }
 
-// What the bare decoder answers: what was read, or the number of its refusal.
+// What the bare decoder answers of a bool: it, or the number of its refusal.
 pub enum BoolAnswer {
     Read(Bit),
     Refused(u32),
 }
 
+// The same of a literal.
 pub enum UintAnswer {
     Read(Uint),
     Refused(u32),
 }
 
+// The same of a signed literal.
 pub enum SintAnswer {
     Read(Sint),
     Refused(u32),
@@ -85,6 +99,7 @@ fn bigsplit(split: u32) -> u64
     (split as u64) << 56
 }
 
+// The limit of a window.
 fn limit_of(value: u64) -> u32
     ensures { λ r. ⌜ r ≡ limitOf value ⌝ }
 {
@@ -95,7 +110,7 @@ fn limit_of(value: u64) -> u32
 // The window after `shift` doublings, which drop what leaves it; a byte comes in where eight bits are free.
 fn fill(area: &[u8], value: u64, doublings: u32, shift: u32) -> u64
     requires { ⌜ Held (now area) doublings (vOf (now area) doublings value) value × (doublings < 2 ^ 31) × (shift ≤ 7) ⌝ }
-    ensures { λ r. ⌜ Held (now (area .entry)) (doublings + shift) (vOf (now (area .entry)) doublings value * 2 ^ shift % 2 ^ (bits (now (area .entry)) + 8)) r ⌝ }
+    ensures { λ r. ⌜ Held (now (area .entry)) (doublings + shift) (vAfter (now (area .entry)) doublings value shift) r ⌝ }
 {
     let free = doublings % 8 + shift;
     let moved = value << shift;
@@ -106,12 +121,14 @@ fn fill(area: &[u8], value: u64, doublings: u32, shift: u32) -> u64
     moved + (byte << (free - 8))
 }
 
+// The number of a bit.
 fn digit(b: bool) -> u32
     ensures { λ r. ⌜ r ≡ bit b ⌝ }
 {
     if b { 1 } else { 0 }
 }
 
+// A magnitude with its sign.
 fn signed_of(magnitude: u32, sign: bool) -> i32
     requires { ⌜ magnitude < 2 ^ 31 ⌝ }
     ensures { λ r. ⌜ r ≡ signed sign magnitude ⌝ }
@@ -127,13 +144,15 @@ fn refuse_if(test: bool, number: u32, next: u32) -> u32
     if test { number } else { next }
 }
 
+// Whether both hold.
 fn both(a: bool, b: bool) -> bool
     ensures { λ r. ⌜ r ≡ a && b ⌝ }
 {
     a && b
 }
 
-// The number of the refusal, or 0: a later line goes before an earlier one, so 6, 7, 4, 8. A signed literal wants one bool beside its width.
+// The number of the refusal, or 0: a later line goes before an earlier one, so 6, 7, 4, 8. A signed literal wants one bool beside its
+// width.
 fn refusal(size: usize, width: u32, extra: u32, bools: u32) -> u32
     ensures { λ r. ⌜ r ≡ refusalOf size width (width + extra) bools ⌝ }
 {
@@ -149,14 +168,19 @@ fn refusal(size: usize, width: u32, extra: u32, bools: u32) -> u32
 }
 
 impl BoolDecoder {
-    pub const START_RANGE: u32 = 255;
+    // R at the start.
+    const START_RANGE: u32 = 255;
 
-    pub const WIDEST: u32 = 31;
+    // The widest literal that is read; refusal 7 above it.
+    const WIDEST: u32 = 31;
 
-    pub const MOST_BOOLS: u32 = 16777216;
+    // 2 ^ 24: refusal 8 above it.
+    const MOST_BOOLS: u32 = 16777216;
 
-    pub const AREA_LIMIT: usize = 268435456;
+    // 2 ^ 28: refusal 6 from it on.
+    const AREA_LIMIT: usize = 268435456;
 
+    // At the area's start: V is its first bytes, R is 255.
     pub fn new(area: &[u8]) -> Self
         ensures { λ r. ⌜ Fresh (now (area .entry)) r ⌝ }
     {
@@ -175,6 +199,7 @@ impl BoolDecoder {
         }
     }
 
+    // A bool at the chance probability / 256 of a 0: section 7.2.
     pub fn read_bit(self, area: &[u8], probability: u8) -> Bit
         requires { ⌜ Good (now area) self 1 ⌝ }
         ensures { λ r. ⌜ Ran (bool probability) (now (area .entry)) self (r .bit) (r .dec) 1 ⌝ }
@@ -223,7 +248,8 @@ impl BoolDecoder {
         }
     }
 
-    // A bool at even chances: it doubles once, or not at all. The limit is made of the window each time, so that a run of them makes it once.
+    // A bool at even chances: it doubles once, or not at all. The limit is made of the window each time, so that several in a row make it
+    // once.
     pub fn read_flag(self, area: &[u8]) -> Bit
         requires { ⌜ Good (now area) self 1 ⌝ }
         ensures { λ r. ⌜ Ran flag (now (area .entry)) self (r .bit) (r .dec) 1 ⌝ }
@@ -298,6 +324,13 @@ impl BoolDecoder {
         }
     }
 
+    // How many bools were read.
+    pub fn bools(self) -> u32
+        ensures { λ r. ⌜ r ≡ self .bools ⌝ }
+    {
+        self.bools
+    }
+
     // In bits; it stops at the area's end.
     pub fn pos(self, area: &[u8]) -> u32
         ensures { λ r. ⌜ r ≡ position (bits (now (area .entry))) (stateOf (now (area .entry)) self) ⌝ }
@@ -322,6 +355,7 @@ impl BoolDecoder {
     }
 
     // The bare decoder: each read refuses before any bool is read. Its one premise: `self` is fresh or left by reads over the same area.
+    // A bool at a chance.
     pub fn read_bool_with_prob(self, area: &[u8], probability: u8) -> BoolAnswer
         requires { ⌜ Over (now area) self ⌝ }
         ensures { λ r. ⌜ BoolMeets (now (area .entry)) self probability r ⌝ }
@@ -333,6 +367,7 @@ impl BoolDecoder {
         BoolAnswer::Read(self.read_bit(area, probability))
     }
 
+    // A bool at even chances.
     pub fn read_bool(self, area: &[u8]) -> BoolAnswer
         requires { ⌜ Over (now area) self ⌝ }
         ensures { λ r. ⌜ BoolMeets (now (area .entry)) self 128 r ⌝ }
@@ -344,6 +379,7 @@ impl BoolDecoder {
         BoolAnswer::Read(self.read_flag(area))
     }
 
+    // A literal of nbits bools.
     pub fn read_uint(self, area: &[u8], nbits: u32) -> UintAnswer
         requires { ⌜ Over (now area) self ⌝ }
         ensures { λ r. ⌜ UintMeets (now (area .entry)) self nbits r ⌝ }
@@ -355,6 +391,7 @@ impl BoolDecoder {
         UintAnswer::Read(self.read_literal(area, nbits))
     }
 
+    // A signed literal: nbits bools of magnitude, then a sign.
     pub fn read_sint(self, area: &[u8], nbits: u32) -> SintAnswer
         requires { ⌜ Over (now area) self ⌝ }
         ensures { λ r. ⌜ SintMeets (now (area .entry)) self nbits r ⌝ }

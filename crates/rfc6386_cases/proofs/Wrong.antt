@@ -45,16 +45,23 @@ told r = record {
 }
 
 six-is : told (call fresh six) ≡ record { outcome = Accepted; bools = 1086; key = true; enabled = false }
-unfolding coeffUpdate number start double normal chosen readBool whole countOf position _>>=_ run bool flag when litFrom lit sint make times each maybe orElse anew features segments deltas quant refresh coefficients inter header keyChunk chunk snapshot codedSizes sum sizes headed body decode segmented apply headerOf call
+unfolding coeffUpdate number start double normal chosen readBool whole countOf position _>>=_ run bool flag when litFrom lit sint make
+    times each maybe orElse anew features segments deltas quant refresh coefficients inter header keyChunk chunk snapshot codedSizes sum
+    sizes headed body decode segmented apply headerOf call
 six-is = refl
 
 -- over any parser, whose state is not looked at
-seven-is : (p : Parser) → (call p seven .outcome ≡ Accepted) × (call p seven .header .bools ≡ 1157) × (call p seven .header .«key_frame» ≡ false)
-unfolding coeffUpdate mvUpdate number start double normal chosen readBool whole countOf position _>>=_ run bool flag when litFrom lit sint make times each maybe orElse anew features segments deltas quant refresh coefficients motion modes inter header chunk snapshot codedSizes sum sizes headed body decode headerOf call
+seven-is : (p : Parser)
+    → (call p seven .outcome ≡ Accepted) × (call p seven .header .bools ≡ 1157) × (call p seven .header .«key_frame» ≡ false)
+unfolding coeffUpdate mvUpdate number start double normal chosen readBool whole countOf position _>>=_ run bool flag when litFrom lit
+    sint make times each maybe orElse anew features segments deltas quant refresh coefficients motion modes inter header chunk snapshot
+    codedSizes sum sizes headed body decode headerOf call
 seven-is p = (refl, refl, refl)
 
 eleven-is : call fresh eleven .parser .segmentation .«segmentation_enabled» ≡ true
-unfolding coeffUpdate number start double normal chosen readBool whole countOf position _>>=_ run bool flag when litFrom lit sint make times each maybe orElse anew features segments deltas quant refresh coefficients inter header keyChunk chunk snapshot codedSizes sum sizes headed body decode segmented apply call
+unfolding coeffUpdate number start double normal chosen readBool whole countOf position _>>=_ run bool flag when litFrom lit sint make
+    times each maybe orElse anew features segments deltas quant refresh coefficients inter header keyChunk chunk snapshot codedSizes sum
+    sizes headed body decode segmented apply call
 eleven-is = refl
 
 fresh-is : fresh .segmentation .«segmentation_enabled» ≡ false

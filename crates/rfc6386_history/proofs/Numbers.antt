@@ -1,5 +1,5 @@
 -- The kept numbers are all that a parser keeps: groups of the same lengths that make the same run are the same, and each field is read
--- back from its group. Assumes nothing.
+-- back from its group. A record that code can hold has the right lengths by its type.
 use Prim.Native.Nat.{ℕ, zero, suc, _+_}
 use native.Mathlib.Omega.{arith}
 use mathlib.Core.Path.{_≡_, refl, sym, ap, ap₂, _∙_}
@@ -11,16 +11,21 @@ use lib.Seq.{take-at, drop-at, ext-getD}
 use Rattle.vp8_records.specs.declared.Parser.{Parser}
 use Rattle.vp8_records.specs.Layout.{joined, flatCoeffs, flatMv}
 use Rattle.vp8_records.specs.Start.{fresh}
+use Rattle.rfc6386.specs.Decoder.{pick}
 use Rattle.rfc6386.specs.Runs.{or}
 use Rattle.rfc6386.specs.Frame.{sum}
 use Rattle.rfc6386.specs.Call.{call, after}
 use Rattle.rfc6386_history.specs.Kept.{flagged, groups, all, numbers, kept}
 use Rattle.vp8_records.specs.Shape.{Sized}
-use Rattle.rfc6386_history.specs.History.{since, writes, last}
+use Rattle.rfc6386_history.specs.History.{anyCutter, since, writes, last}
 use Rattle.vp8_records.proofs.Parts.{Laid, coeffs, mv}
 use Rattle.rfc6386_history.proofs.Writes.{sized-fresh}
 use Rattle.rfc6386_history.proofs.Step.{sized-call}
-use Rattle.rfc6386_history.proofs.History.{last-writer}
+use Rattle.rfc6386_history.proofs.History.{last-writer, last-writer-from}
+use mir.Val.{Val}
+use denote.Laws.{Is}
+use Rattle.vp8_records.proofs.Parser as Held
+use Rattle.vp8_records.proofs.Typed.{typed-sized}
 
 same-groups : {A : Type 0} (xs ys : List (List A)) → map length xs ≡ map length ys → all xs ≡ all ys → xs ≡ ys
 unfolding joined
@@ -95,7 +100,8 @@ module _ (p q : Parser) (s : Sized p) (t : Sized q) where
           «ref_frame_delta» = group 5 i;
           «mb_mode_delta» = group 6 i;
         };
-        «coeff_prob» = laid coeffs (p .«coeff_prob») (q .«coeff_prob») (s .coeffs) (t .coeffs) (bytes 7 (λ x. flatCoeffs (x .«coeff_prob»)) (λ x. refl)) i;
+        «coeff_prob» = laid coeffs (p .«coeff_prob») (q .«coeff_prob») (s .coeffs) (t .coeffs)
+            (bytes 7 (λ x. flatCoeffs (x .«coeff_prob»)) (λ x. refl)) i;
         «mv_prob» = laid mv (p .«mv_prob») (q .«mv_prob») (s .motion) (t .motion) (bytes 8 (λ x. flatMv (x .«mv_prob»)) (λ x. refl)) i;
         «mode_probs» = record {
           «intra_16x16_prob» = bytes 9 (λ x. x .«mode_probs» .«intra_16x16_prob») (λ x. refl) i;
@@ -136,3 +142,19 @@ sized-after p (x ∷ xs) s = sized-after (call p x .parser) xs (sized-call p x s
 pub only : (q : Parser) (xs : List (List ℕ)) → Sized q
     → ((i : ℕ) → kept q i ≡ or (last (map (λ f. writes f i) (since xs))) (kept fresh i)) → q ≡ after fresh xs
 only q xs s h = numbers-are-all q (after fresh xs) s (sized-after fresh xs sized-fresh) (λ i. h i ∙ sym (last-writer xs i))
+
+-- the same of records that code can hold, the values of the type `Parser`: with no premise on their shape
+module _ (p : Parser) (vs : List Val) (held : Is Held.the-row p vs) where
+  pub held-many : length (numbers p) ≡ 1126
+  held-many = how-many p (typed-sized p vs held)
+
+  pub held-are-all : (q : Parser) (ws : List Val) → Is Held.the-row q ws → ((i : ℕ) → kept p i ≡ kept q i) → p ≡ q
+  held-are-all q ws other = numbers-are-all p q (typed-sized p vs held) (typed-sized q ws other)
+
+  pub held-only : (xs : List (List ℕ)) → ((i : ℕ) → kept p i ≡ or (last (map (λ f. writes f i) (since xs))) (kept fresh i))
+      → p ≡ after fresh xs
+  held-only xs = only p xs (typed-sized p vs held)
+
+  pub held-writer : (xs : List (List ℕ)) (i : ℕ)
+      → kept (after p xs) i ≡ or (last (map (λ f. writes f i) (since xs))) (kept (pick (anyCutter xs) fresh p) i)
+  held-writer xs i = last-writer-from p xs i (typed-sized p vs held)

@@ -1,4 +1,4 @@
--- What the past cannot touch: for one frame and any two parsers, by cases on what the frame says. Assumes nothing.
+-- What the past cannot touch: for one frame and any two parsers, by cases on what the frame says.
 use Prim.Native.Nat.{ℕ}
 use mathlib.Core.Path.{_≡_, refl, sym, ap, _∙_}
 use mathlib.Core.Bool.{Bool, true, false}
@@ -12,7 +12,7 @@ use Rattle.vp8_records.specs.Start.{fresh}
 use Rattle.rfc6386.specs.Decoder.{pick}
 use Rattle.rfc6386.specs.Runs.{or}
 use Rattle.rfc6386.specs.Frame.{Opened, shut, opened, chunk, beyond, empty, read, Said, refused, follows, body, inside, decode}
-use Rattle.rfc6386.specs.Call.{finish, call, after}
+use Rattle.rfc6386.specs.Call.{headerOf, finish, call, after}
 use Rattle.rfc6386_history.specs.Refusals.{keyOf, opens}
 use Rattle.rfc6386_history.specs.Kept.{kept}
 use Rattle.vp8_records.specs.Shape.{Sized}
@@ -29,6 +29,16 @@ alike (follows k empty) p q = record { outcome = refl; header = λ part h. refl 
 alike (follows k (read c s none)) p q = record { outcome = refl; header = λ part h. refl }
 alike (follows k (read c s (some ss))) p q = record { outcome = refl; header = λ part h. h k c s ss _ _ }
 
+rest-alone : (s : Said) (p q : Parser) → finish s p .header .«coeff_prob» ≡ finish s q .header .«coeff_prob»
+    → finish s p .header .«mv_prob» ≡ finish s q .header .«mv_prob» → finish s p .header .«mode_probs» ≡ finish s q .header .«mode_probs»
+    → finish s p .header ≡ finish s q .header
+unfolding headerOf
+rest-alone (refused o) p q a b c = refl
+rest-alone (follows k (beyond end n)) p q a b c = refl
+rest-alone (follows k empty) p q a b c = refl
+rest-alone (follows k (read c s none)) p q a b d = refl
+rest-alone (follows k (read c s (some ss))) p q a b d = λ i. headerOf k c s ss (record { coeffs = a i; mv = b i; modes = d i })
+
 -- whatever was kept, a frame's answer is the same but for those
 pub alone : (p q : Parser) (f : List ℕ) → Alike (call p f) (call q f)
 unfolding call
@@ -38,8 +48,21 @@ alone p q f = alike (decode f) p q
 pub alone-outcome : (p q : Parser) (f : List ℕ) → call p f .outcome ≡ call q f .outcome
 alone-outcome p q f = alone p q f .outcome
 
-pub alone-part : (p q : Parser) (f : List ℕ) {A : Type 0} (part : Header → A) → Blind part → part (call p f .header) ≡ part (call q f .header)
+pub alone-part : (p q : Parser) (f : List ℕ) {A : Type 0} (part : Header → A) → Blind part → part (call p f .header)
+    ≡ part (call q f .header)
 alone-part p q f = alone p q f .header
+
+-- as the count of bools
+pub alone-bools : (p q : Parser) (f : List ℕ) → call p f .header .bools ≡ call q f .header .bools
+unfolding headerOf
+alone-bools p q f = alone-part p q f (λ h. h .bools) (λ k c s ss r r′. refl)
+
+-- those are all: where the three groups of probabilities are the same too, so is the header
+pub alone-rest : (p q : Parser) (f : List ℕ) → call p f .header .«coeff_prob» ≡ call q f .header .«coeff_prob»
+    → call p f .header .«mv_prob» ≡ call q f .header .«mv_prob» → call p f .header .«mode_probs» ≡ call q f .header .«mode_probs»
+    → call p f .header ≡ call q f .header
+unfolding call
+alone-rest p q f = rest-alone (decode f) p q
 
 -- and for a key frame the whole header is the same
 pub key-alone : (p q : Parser) (f : List ℕ) → keyOf f ≡ true → call p f .header ≡ call q f .header
@@ -51,7 +74,8 @@ key-alone p q f h = go (chunk f) (chunk-opens f)
     go (opened k) e = ap (λ (a : Parsed). a .header) (forgets-body p q k (body k f) (e .0 ∙ h))
 
 -- a kept number owes nothing to the others
-pub number-alone : (p q : Parser) (xs : List (List ℕ)) (i : ℕ) → Sized p → Sized q → kept p i ≡ kept q i → kept (after p xs) i ≡ kept (after q xs) i
+pub number-alone : (p q : Parser) (xs : List (List ℕ)) (i : ℕ) → Sized p → Sized q → kept p i ≡ kept q i
+    → kept (after p xs) i ≡ kept (after q xs) i
 number-alone p q xs i s t h =
     last-writer-from p xs i s
     ∙ ap (λ (z : ℤ). or (last (map (λ f. writes f i) (since xs))) z) (same (anyCutter xs))

@@ -1,6 +1,6 @@
--- A call answers as document 01's table of refusals says: by cases on each test of the definition, taken apart once. What each refusal
--- leaves and its exact cause are then read off the table. Assumes nothing.
-use Prim.Native.Nat.{ℕ, _+_, _-_, _*_, _^_, _<_}
+-- A call answers as the table of refusals says: by cases on each test of the definition, taken apart once. What each refusal carries and
+-- leaves, and its exact cause, are then read off the table.
+use Prim.Native.Nat.{ℕ, zero, suc, _+_, _-_, _*_, _^_, _<_}
 use native.Mathlib.Omega.{arith}
 use mathlib.Core.Logic.{_↔_}
 use mathlib.Core.Path.{_≡_, refl, sym, ap, _∙_}
@@ -14,14 +14,15 @@ use Rattle.vp8_records.specs.declared.Parser.{Parser}
 use Rattle.vp8_records.specs.declared.Parsed.{Parsed}
 use Rattle.vp8_records.specs.declared.Outcome.{Outcome}
 use Rattle.vp8_records.specs.declared.Outcome.the-variants.{Accepted, ChunkTooShort, InvalidStartCode, InvalidPartitionSize, EmptyArea, EndOfHeader, FrameTooLong}
-use Rattle.vp8_records.specs.Outcome.{numberOf}
+use Rattle.vp8_records.specs.Outcome as Tell
+use Rattle.vp8_records.specs.Outcome.{numberOf, carriedBy}
 use Rattle.vp8_records.specs.Start.{blank}
 use Rattle.rfc6386.specs.Bytes.{le2, le3}
 use Rattle.rfc6386.specs.Decoder.{pick}
 use Rattle.rfc6386.specs.Coded.{Coded}
 use Rattle.rfc6386.specs.Frame.{Chunk, tagged, keyed, Opened, shut, opened, keyChunk, chunk, Snapshot, codedSizes, sum, sizes, beyond, empty, read, decoded, headed, body, follows, inside, decode}
 use Rattle.rfc6386.specs.Call.{apply, cleared, base, answer, finish, call}
-use Rattle.rfc6386_history.specs.Refusals.{keyOf, rightCode, tooLong, tooShort, otherCode, chunkSize, area, firstSize, beyondEnd, isEmpty, heldOf, coded, sizesBeyond, afterChunk, outcomeOf, baseOf, left, headOf, opens, Exactly}
+use Rattle.rfc6386_history.specs.Refusals.{keyOf, rightCode, tooLong, tooShort, otherCode, chunkSize, area, firstSize, beyondEnd, isEmpty, heldOf, coded, sizesBeyond, afterChunk, outcomeOf, baseOf, left, headOf, Refused, opens, Exactly}
 
 -- the answer a is the table's for the outcome o
 abbrev pub Told : Parsed → Outcome → (Parser → Parser) → Coded → Parser → Type 0
@@ -206,30 +207,6 @@ module _ (p : Parser) (f : List ℕ) where
       let is : outcomeOf f ≡ o = sym outcome-is ∙ e in
       told p f ∙ ap (λ (x : Outcome). said x (outcomeOf f)) (rows-of f .carries) ∙ ap (λ (x : Outcome). said (carrying f x) x) is
 
-  -- what each refusal carries and leaves, row by row
-  pub refused-6 : (n : ℕ) → call p f .outcome ≡ FrameTooLong n → call p f ≡ answer (FrameTooLong (length f)) blank p
-  refused-6 n = row (FrameTooLong n)
-
-  pub refused-1 : call p f .outcome ≡ ChunkTooShort → call p f ≡ answer ChunkTooShort blank p
-  refused-1 = row ChunkTooShort
-
-  pub refused-2 : (code : ℕ) → call p f .outcome ≡ InvalidStartCode code → call p f ≡ answer (InvalidStartCode (le3 f 3)) blank p
-  refused-2 code = row (InvalidStartCode code)
-
-  pub refused-3 : (end n : ℕ) → call p f .outcome ≡ InvalidPartitionSize end n
-      → call p f ≡ answer (InvalidPartitionSize (chunkSize (keyOf f) + firstSize f) (length f)) blank (baseOf (keyOf f) f p)
-  refused-3 end n = row (InvalidPartitionSize end n)
-
-  pub refused-4 : call p f .outcome ≡ EmptyArea → call p f ≡ answer EmptyArea blank (baseOf (keyOf f) f (cleared p))
-  refused-4 = row EmptyArea
-
-  pub refused-5 : call p f .outcome ≡ EndOfHeader → call p f ≡ answer EndOfHeader blank (apply (coded (keyOf f) f) (baseOf (keyOf f) f p))
-  refused-5 = row EndOfHeader
-
-  -- and what an accepted frame leaves
-  pub accepted-leaves : call p f .outcome ≡ Accepted → call p f .parser ≡ apply (coded (keyOf f) f) (baseOf (keyOf f) f p)
-  accepted-leaves e = ap (λ (a : Parsed). a .parser) (row Accepted e)
-
   -- every refusal has the blank header
   pub refused-blank : 0 < numberOf (call p f .outcome) → call p f .header ≡ blank
   refused-blank h = ap (λ (a : Parsed). a .header) (told p f) ∙ go (outcomeOf f) (rw outcome-is at h)
@@ -242,6 +219,39 @@ module _ (p : Parser) (f : List ℕ) where
       go EmptyArea n = refl
       go EndOfHeader n = refl
       go (FrameTooLong m) n = refl
+
+  refused : (o : Outcome) → 0 < numberOf o → call p f .outcome ≡ o
+      → Refused (call p f) (numberOf o) (carriedBy (carrying f o)) (left o (baseOf (keyOf f) f) (coded (keyOf f) f) p)
+  refused o n e = record {
+    number = ap numberOf e;
+    carries = ap (λ (a : Parsed). carriedBy (a .outcome)) (row o e);
+    header = refused-blank (rw e n);
+    leaves = ap (λ (a : Parsed). a .parser) (row o e);
+  }
+
+  -- what each refusal carries and leaves, row by row
+  pub refused-6 : (n : ℕ) → call p f .outcome ≡ FrameTooLong n → Refused (call p f) 6 (length f ∷ []) p
+  refused-6 n = refused (FrameTooLong n) (omega arith)
+
+  pub refused-1 : call p f .outcome ≡ ChunkTooShort → Refused (call p f) 1 [] p
+  refused-1 = refused ChunkTooShort (omega arith)
+
+  pub refused-2 : (code : ℕ) → call p f .outcome ≡ InvalidStartCode code → Refused (call p f) 2 (le3 f 3 ∷ []) p
+  refused-2 code = refused (InvalidStartCode code) (omega arith)
+
+  pub refused-3 : (end n : ℕ) → call p f .outcome ≡ InvalidPartitionSize end n
+      → Refused (call p f) 3 ((chunkSize (keyOf f) + firstSize f) ∷ length f ∷ []) (baseOf (keyOf f) f p)
+  refused-3 end n = refused (InvalidPartitionSize end n) (omega arith)
+
+  pub refused-4 : call p f .outcome ≡ EmptyArea → Refused (call p f) 4 [] (baseOf (keyOf f) f (cleared p))
+  refused-4 = refused EmptyArea (omega arith)
+
+  pub refused-5 : call p f .outcome ≡ EndOfHeader → Refused (call p f) 5 [] (apply (coded (keyOf f) f) (baseOf (keyOf f) f p))
+  refused-5 = refused EndOfHeader (omega arith)
+
+  -- and what an accepted frame leaves
+  pub accepted-leaves : call p f .outcome ≡ Accepted → call p f .parser ≡ apply (coded (keyOf f) f) (baseOf (keyOf f) f p)
+  accepted-leaves e = ap (λ (a : Parsed). a .parser) (row Accepted e)
 
   decided : (n : ℕ) (b : Bool) → eqb (numberOf (outcomeOf f)) n ≡ b → (numberOf (call p f .outcome) ≡ n) ↔ (b ≡ true)
   decided n b e = rw outcome-is (λ h. sym e ∙ eq-eqb _ n h, λ h. eqb-true _ n (e ∙ h))
@@ -261,3 +271,35 @@ module _ (p : Parser) (f : List ℕ) where
         five = decided 5 _ (ap (at 5) m);
         accepted = decided 0 _ (ap (at 6) m);
       }
+
+-- an outcome from its number and what it carries
+abbrev back : Tell.Told → Outcome
+back t = elim (t .number) [
+  | zero ↦ Accepted
+  | suc a ↦ elim a [
+    | zero ↦ ChunkTooShort
+    | suc b ↦ elim b [
+      | zero ↦ InvalidStartCode (getD (t .carried) 0 0)
+      | suc c ↦ elim c [
+        | zero ↦ InvalidPartitionSize (getD (t .carried) 0 0) (getD (t .carried) 1 0)
+        | suc d ↦ elim d [
+          | zero ↦ EmptyArea
+          | suc e ↦ elim e [ zero ↦ EndOfHeader | suc g ↦ FrameTooLong (getD (t .carried) 0 0) ]
+        ]
+      ]
+    ]
+  ]
+]
+
+back-is : (o : Outcome) → back (Tell.told o) ≡ o
+back-is Accepted = refl
+back-is ChunkTooShort = refl
+back-is (InvalidStartCode code) = refl
+back-is (InvalidPartitionSize end n) = refl
+back-is EmptyArea = refl
+back-is EndOfHeader = refl
+back-is (FrameTooLong n) = refl
+
+-- number and values are all that an outcome says
+pub told-apart : (o o′ : Outcome) → Tell.told o ≡ Tell.told o′ → o ≡ o′
+told-apart o o′ e = sym (back-is o) ∙ ap back e ∙ back-is o′

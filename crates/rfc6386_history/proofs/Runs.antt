@@ -1,4 +1,4 @@
--- Laws of what is written over a run, by induction over it. Assumes nothing.
+-- Laws of what is written over a run, by induction over it.
 use Prim.Native.Nat.{ℕ, zero, suc, _≤_}
 use native.Mathlib.Omega.{arith}
 use mathlib.Core.Path.{_≡_, refl, ap}
@@ -25,7 +25,8 @@ over-fit (suc n) [] (x ∷ xs) h = ap (λ r. x ∷ r) (over-fit n [] xs (omega (
 over-fit (suc n) (u ∷ us) [] h = refl
 over-fit (suc n) (u ∷ us) (x ∷ xs) h = ap (λ r. or u x ∷ r) (over-fit n us xs (omega (arith, h)))
 
-pub over-map : {A B : Type 0} (f : A → B) (us : List (Option A)) (xs : List A) → over (map (Option·map f) us) (map f xs) ≡ map f (over us xs)
+pub over-map : {A B : Type 0} (f : A → B) (us : List (Option A)) (xs : List A)
+    → over (map (Option·map f) us) (map f xs) ≡ map f (over us xs)
 unfolding over
 over-map f [] xs = refl
 over-map f (u ∷ us) [] = refl

@@ -1,5 +1,5 @@
--- One call: a cutter forgets what was kept, and any frame writes what document 01 says over what it started from. By cases on the
--- outcome, with the refusal table. Assumes nothing.
+-- One call: a cutter forgets what was kept, and any frame writes what the rules say (`writes`) over what it started from. By cases
+-- on the outcome, with the refusal table.
 use Prim.Native.Nat.{ℕ, zero-le, _≤_}
 use native.Mathlib.Omega.{arith}
 use mathlib.Core.Path.{_≡_, refl, sym, ap, _∙_}
@@ -97,7 +97,8 @@ moves-none : (p : Parser) → Moves [] p p
 unfolding over
 moves-none p = record { fits = zero-le; is = refl }
 
-moves-empty : (key : Bool) (f : List ℕ) (c : Coded) (p : Parser) → Moves (wrote EmptyArea key c) (pick key fresh p) (baseOf key f (cleared p))
+moves-empty : (key : Bool) (f : List ℕ) (c : Coded) (p : Parser)
+    → Moves (wrote EmptyArea key c) (pick key fresh p) (baseOf key f (cleared p))
 unfolding over numbers joined cleared
 moves-empty true f c p = moves-none fresh
 moves-empty false f c p = record { fits = omega arith; is = refl }

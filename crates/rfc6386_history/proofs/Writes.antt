@@ -1,4 +1,5 @@
--- A header read to its end writes what document 01 says, group by group, and the parser keeps its shape. Assumes nothing.
+-- A header read to its end writes what the rules say (`written`), group by group, and the parser keeps its shape: one law for a group,
+-- and one for what follows it.
 use Prim.Native.Nat.{ℕ}
 use native.Mathlib.Omega.{arith}
 use mathlib.Core.Path.{_≡_, refl, sym, ap₂, _∙_}
@@ -50,7 +51,8 @@ unfolding over
 nothing = record { same = refl; is = refl }
 
 -- a group, and what follows it
-_then_ : {A : Type 0} {us vs : List (Option A)} {xs ys zs ws : List A} → Wrote us xs zs → Wrote vs ys ws → Wrote (us ++ vs) (xs ++ ys) (zs ++ ws)
+_then_ : {A : Type 0} {us vs : List (Option A)} {xs ys zs ws : List A} → Wrote us xs zs → Wrote vs ys ws
+    → Wrote (us ++ vs) (xs ++ ys) (zs ++ ws)
 _then_ {us = us} {vs} {xs} {ys} {zs} {ws} a b = record {
   same = simp length-append (omega (arith, a .same, b .same));
   is = over-append us vs xs ys (a .same) ∙ ap₂ _++_ (a .is) (b .is);
@@ -74,7 +76,8 @@ module _ (n : ℕ) where
   }
 
   -- that is saved only where b is set
-  saves : (b : Bool) (flat : Probs → List ℕ) (new old : Probs) (us : List (Option ℕ)) → length (flat old) ≡ n → flat new ≡ over us (flat old)
+  saves : (b : Bool) (flat : Probs → List ℕ) (new old : Probs) (us : List (Option ℕ)) → length (flat old) ≡ n
+      → flat new ≡ over us (flat old)
       → Wrote (bytes n (pick b us [])) (map pos (flat old)) (map pos (flat (pick b new old)))
   unfolding over
   saves true flat new old us h e = rw e (probs us (flat old) h)
@@ -150,7 +153,8 @@ sized-apply c p s = record {
   chroma = saved (λ q. length (q .modes .«intra_chroma_prob») ≡ 3) (length-over (c .inter .chroma) _ ∙ s .chroma) (s .chroma);
 }
   where
-    saved : (P : Probs → Type 0) → P (probsOver c (probsOf p)) → P (probsOf p) → P (pick (c .refresh .entropy) (probsOver c (probsOf p)) (probsOf p))
+    saved : (P : Probs → Type 0) → P (probsOver c (probsOf p)) → P (probsOf p)
+        → P (pick (c .refresh .entropy) (probsOver c (probsOf p)) (probsOf p))
     saved P = either (c .refresh .entropy) P _ _
 
 pub sized-cleared : (p : Parser) → Sized p → Sized (cleared p)

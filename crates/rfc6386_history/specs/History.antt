@@ -59,7 +59,8 @@ always b = some (flagged b)
 unfoldable pub written : Coded → List (Option ℤ)
 written c =
     all (
-    (always (c .segments .enabled) ∷ always (c .segments .updateMap) ∷ always (c .segments .updateData) ∷ Option·map flagged (c .segments .mode) ∷ [])
+    (always (c .segments .enabled) ∷ always (c .segments .updateMap) ∷ always (c .segments .updateData)
+    ∷ Option·map flagged (c .segments .mode) ∷ [])
     ∷ fit 4 (c .segments .quantizers)
     ∷ fit 4 (c .segments .levels)
     ∷ bytes 3 (c .segments .probs)

@@ -1,4 +1,4 @@
--- The kept numbers, as document 01 counts them ("What the parser keeps"): 1,126 in parser.rs field order. A flag is 0 or 1.
+-- The kept numbers, as the rules count them (docs/RULES.md, what is kept): 1,126, in the order of the record's fields. A flag is 0 or 1.
 use Prim.Native.Nat.{ℕ}
 use mathlib.Core.Bool.{Bool, true, false}
 use mathlib.Core.List.{List, [], _∷_, map}

@@ -1,5 +1,5 @@
--- Document 01's table of refusals ("Refusal numbers, in order of checking"), from the bytes of a frame: `outcomeOf` is its columns
--- "Exactly when" and "Carries", `left` its column "State left". proofs/Refusals.antt shows that every call is as it says.
+-- The table of refusals (docs/RULES.md), from the bytes of a frame: `outcomeOf` is its columns "Exactly when" and "Carries", `left` its
+-- column "State left". proofs/Refusals.antt shows that every call is as it says.
 use Prim.Native.Nat.{ℕ, _+_, _-_, _*_, _/_, _%_, _^_}
 use mathlib.Core.Logic.{_↔_}
 use mathlib.Core.Path.{_≡_}
@@ -11,7 +11,8 @@ use Rattle.vp8_records.specs.declared.Parser.{Parser}
 use Rattle.vp8_records.specs.declared.Header.{Header}
 use Rattle.vp8_records.specs.declared.Outcome.{Outcome}
 use Rattle.vp8_records.specs.declared.Outcome.the-variants.{Accepted, ChunkTooShort, InvalidStartCode, InvalidPartitionSize, EmptyArea, EndOfHeader, FrameTooLong}
-use Rattle.vp8_records.specs.Outcome.{numberOf}
+use Rattle.vp8_records.specs.declared.Parsed.{Parsed}
+use Rattle.vp8_records.specs.Outcome.{numberOf, carriedBy}
 use Rattle.vp8_records.specs.Start.{blank}
 use Rattle.rfc6386.specs.Bytes.{le3}
 use Rattle.rfc6386.specs.Decoder.{pick}
@@ -115,6 +116,13 @@ headOf (InvalidPartitionSize end n) h = blank
 headOf EmptyArea h = blank
 headOf EndOfHeader h = blank
 headOf (FrameTooLong n) h = blank
+
+-- an answer is the refusal n: it carries these values, has the blank header, and leaves this state
+pub record Refused (a : Parsed) (n : ℕ) (values : List ℕ) (state : Parser) : Type 0 where
+  pub number : numberOf (a .outcome) ≡ n
+  pub carries : carriedBy (a .outcome) ≡ values
+  pub header : a .header ≡ blank
+  pub leaves : a .parser ≡ state
 
 -- 6, 1 and 2 do not refuse it: its chunk is valid
 abbrev pub opens : List ℕ → Bool

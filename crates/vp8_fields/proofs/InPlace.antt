@@ -1,65 +1,33 @@
--- A loop that reads each element anew in its place is the definition's state-free read, written over what was there: one law for a loop over
--- numbers, one for a loop over records, for every read, length and layout. By induction on the list. Assumes nothing.
+-- A loop that reads each element anew in its place is the definition's state-free read, written over what was there: one law for a loop
+-- over numbers, one for a loop over records, for every read, length and layout. By induction on the list.
 use Prim.Native.Nat.{ℕ, zero, suc, _+_, _*_, _≤_}
 use native.Mathlib.Nat.{suc-mul, zero-mul, add-zero, zero-add, add-suc, suc-add}
 use native.Mathlib.Omega.{arith}
 use mathlib.Core.Path.{_≡_, refl, sym, ap, ap₂, _∙_, fun-ext}
-use mathlib.Core.Bool.{Bool, true, false}
-use mathlib.Core.Option.{Option, none, some}
+use mathlib.Core.Option.{Option, some}
 use mathlib.Core.List.{List, [], _∷_, _++_}
 use lib.ListN.{length, getD, take, drop, replicate, length-drop, length-replicate}
 use lib.Seq.{drop-cons, drop-drop, take-add, drop-at, length-take-le, take-at, take-take, take-nil}
 use Rattle.vp8_records.specs.Layout.{rows, joined}
 use Rattle.vp8_records.specs.Shape.{Every}
-use Rattle.rfc6386.specs.Reads.{Rd, ret, ask, _>>=_, bool, flag, when, make, times, each, maybe, orElse}
+use Rattle.rfc6386.specs.Reads.{Rd, ret, ask, _>>=_, flag, make, times, each, maybe, orElse}
 use Rattle.rfc6386.specs.Runs.{or, over}
 use Rattle.rfc6386.specs.Coded.{anew}
 use Rattle.rfc6386.proofs.Runs.{length-over, over-append}
 use Rattle.rfc6386.proofs.Trees.{assoc, onward}
 use Rattle.bool_decoder.specs.InPlace.{eachAt}
-
--- a tree followed by what is made of its value, and then more
-pub make-then : {A B C : Type 0} (m : Rd A) (h : A → B) (k : B → Rd C) → make h m >>= k ≡ m >>= (λ a. k (h a))
-unfolding make _>>=_
-make-then m h k = assoc m (λ a. ret (h a)) k
-
-pub make-make : {A B C : Type 0} (m : Rd A) (h : A → B) (g : B → C) → make g (make h m) ≡ make (λ a. g (h a)) m
-unfolding make _>>=_
-make-make m h g = assoc m (λ a. ret (h a)) (λ b. ret (g b))
-
--- what is made of two reads, and of a read under a flag
-pub make-bind : {A B C : Type 0} (m : Rd A) (f : A → Rd B) (h : B → C) → m >>= (λ a. make h (f a)) ≡ make h (m >>= f)
-unfolding make _>>=_
-make-bind m f h = sym (assoc m f (λ b. ret (h b)))
-
-pub make-on : {A B : Type 0} (m : Rd A) (x : A) (h : A → B) {b : Bool} → b ≡ true → make h m ≡ make h (when b m x)
-unfolding when
-make-on m x h e = rw e
-
-pub make-off : {A B : Type 0} (m : Rd A) (x : A) (h : A → B) {b : Bool} → b ≡ false → ret (h x) ≡ make h (when b m x)
-unfolding when make _>>=_
-make-off m x h e = rw e
-
--- a read that keeps the old value where none is coded
-pub kept-or : {A : Type 0} (p : ℕ) (m : Rd A) (x : A) → bool p >>= (λ b. when b m x) ≡ make (λ u. or u x) (maybe p m)
-unfolding maybe make when _>>=_
-kept-or p m x = onward (bool p) go ∙ sym (assoc (bool p) _ _)
-  where
-    back : {A : Type 0} (n : Rd A) → n >>= (λ a. ret a) ≡ n
-    back (ret a) = refl
-    back (ask q k) = ap (ask q) (fun-ext (λ b. back (k b)))
-
-    go : (b : Bool) → when b m x ≡ when b (make some m) none >>= (λ u. ret (or u x))
-    go true = sym (back m) ∙ sym (assoc m (λ y. ret (some y)) (λ u. ret (or u x)))
-    go false = refl
+use Rattle.bool_decoder.proofs.Made.{make-then, make-make, kept-or}
+use Rattle.vp8_fields.specs.Rows.{onto, rowOver}
 
 module _ {P A : Type 0} (g : P → Rd A) where
-  each-cons : {C : Type 0} (p : P) (ps : List P) (k : List A → Rd C) → each g (p ∷ ps) >>= k ≡ g p >>= (λ y. each g ps >>= (λ ys. k (y ∷ ys)))
+  each-cons : {C : Type 0} (p : P) (ps : List P) (k : List A → Rd C)
+      → each g (p ∷ ps) >>= k ≡ g p >>= (λ y. each g ps >>= (λ ys. k (y ∷ ys)))
   unfolding each _>>=_
   each-cons p ps k = assoc (g p) _ k ∙ onward (g p) (λ y. assoc (each g ps) _ k)
 
   -- it gives as many
-  each-onward : {C : Type 0} (ps : List P) (k l : List A → Rd C) → ((ys : List A) → length ys ≡ length ps → k ys ≡ l ys) → each g ps >>= k ≡ each g ps >>= l
+  each-onward : {C : Type 0} (ps : List P) (k l : List A → Rd C) → ((ys : List A) → length ys ≡ length ps → k ys ≡ l ys)
+      → each g ps >>= k ≡ each g ps >>= l
   unfolding each _>>=_
   each-onward [] k l h = h [] refl
   each-onward (p ∷ ps) k l h =
@@ -67,11 +35,13 @@ module _ {P A : Type 0} (g : P → Rd A) where
       ∙ onward (g p) (λ y. each-onward ps (λ ys. k (y ∷ ys)) (λ ys. l (y ∷ ys)) (λ ys e. h (y ∷ ys) (ap suc e)))
       ∙ sym (each-cons p ps l)
 
-  each-append : {C : Type 0} (ps qs : List P) (k : List A → Rd C) → each g (ps ++ qs) >>= k ≡ each g ps >>= (λ us. each g qs >>= (λ vs. k (us ++ vs)))
+  each-append : {C : Type 0} (ps qs : List P) (k : List A → Rd C)
+      → each g (ps ++ qs) >>= k ≡ each g ps >>= (λ us. each g qs >>= (λ vs. k (us ++ vs)))
   unfolding each _>>=_
   each-append [] qs k = refl
   each-append (p ∷ ps) qs k =
-      each-cons p (ps ++ qs) k ∙ onward (g p) (λ y. each-append ps qs (λ ys. k (y ∷ ys))) ∙ sym (each-cons p ps (λ us. each g qs >>= (λ vs. k (us ++ vs))))
+      each-cons p (ps ++ qs) k ∙ onward (g p) (λ y. each-append ps qs (λ ys. k (y ∷ ys)))
+      ∙ sym (each-cons p ps (λ us. each g qs >>= (λ vs. k (us ++ vs))))
 
 -- the same read n times is that of each of n
 pub times-each : {P A : Type 0} (m : Rd A) (ps : List P) → each (λ p. m) ps ≡ times (length ps) m
@@ -83,7 +53,7 @@ times-each {P} {A} m (p ∷ ps) = onward m (λ x. ap {A = Rd (List A)} (λ t. t 
 pub loop-over : {A : Type 0} (f : ℕ → A → Rd A) (g : ℕ → Rd (Option A)) (t : List ℕ) (at : ℕ)
     → ((i : ℕ) (x : A) → f i x ≡ make (λ u. or u x) (g (getD t (at + i) 0)))
     → (i : ℕ) (xs : List A) → at + i + length xs ≤ length t
-    → eachAt f i xs ≡ make (λ us. over us xs) (each g (take (length xs) (drop (at + i) t)))
+    → eachAt f i xs ≡ onto xs (each g (take (length xs) (drop (at + i) t)))
 unfolding eachAt each over make _>>=_
 loop-over f g t at h i [] fits = refl
 loop-over {A} f g t at h i (x ∷ xs) fits =
@@ -94,18 +64,18 @@ loop-over {A} f g t at h i (x ∷ xs) fits =
     ∙ make-then (g p) (λ u. or u x) _
     ∙ onward (g p) (λ u. make-then (each g ps) (λ us. over us xs) (λ ys. ret (or u x ∷ ys)))
     ∙ sym (each-cons g p ps (λ us. ret (over us (x ∷ xs))))
-    ∙ ap (λ (l : List ℕ). make (λ us. over us (x ∷ xs)) (each g (take (suc (length xs)) l))) (sym (drop-cons t (at + i) 0 (omega (arith, fits))))
+    ∙ ap (λ (l : List ℕ). onto (x ∷ xs) (each g (take (suc (length xs)) l))) (sym (drop-cons t (at + i) 0 (omega (arith, fits))))
 
 -- the same of one read for all n
 pub loop-times : {A : Type 0} (f : ℕ → A → Rd A) (m : Rd (Option A)) → ((i : ℕ) (x : A) → f i x ≡ make (λ u. or u x) m)
-    → (n : ℕ) (xs : List A) → length xs ≡ n → eachAt f 0 xs ≡ make (λ us. over us xs) (times n m)
+    → (n : ℕ) (xs : List A) → length xs ≡ n → eachAt f 0 xs ≡ onto xs (times n m)
 loop-times {A} f m h n xs e =
     let t : List ℕ = replicate n 0 in
-    let part : List ℕ = take (length xs) (drop (0 + 0) t) in
+    let ps : List ℕ = take (length xs) (drop (0 + 0) t) in
     let all : length t ≡ n = length-replicate n 0 in
-    let size : length part ≡ n = length-take-le (length xs) t (omega (arith, e, all)) ∙ e in
+    let size : length ps ≡ n = length-take-le (length xs) t (omega (arith, e, all)) ∙ e in
     loop-over f (λ p. m) t 0 h 0 xs (omega (arith, e, all))
-    ∙ ap (λ (r : Rd (List (Option A))). make (λ us. over us xs) r) (times-each m part ∙ ap (λ (k : ℕ). times k m) size)
+    ∙ ap (λ (r : Rd (List (Option A))). onto xs r) (times-each m ps ∙ ap (λ (k : ℕ). times k m) size)
 
 -- the old values have no say where each is read anew
 pub some-over : {A : Type 0} (m : Rd A) (x : A) → m ≡ make (λ u. or u x) (make some m)
@@ -113,7 +83,7 @@ unfolding make _>>=_
 some-over (ret a) x = refl
 some-over (ask p k) x = ap (ask p) (fun-ext (λ b. some-over (k b) x))
 
--- a loop over records of n numbers each: `flat` is a record's run, `laid` makes a record of the first n numbers of a run
+-- a loop over records of n numbers each: `flat` is a record's numbers, `laid` makes a record of the first n of a list
 module _ {A : Type 0} (flat : A → List ℕ) (laid : List ℕ → A) (Good : A → Type 0) (n : ℕ) (g : ℕ → Rd (Option ℕ)) (t : List ℕ)
     (sized : (x : A) → Good x → length (flat x) ≡ n) (own : (ys : List ℕ) → laid ys ≡ laid (take n ys)) where
   -- what is written over a record and over those after it
@@ -123,13 +93,16 @@ module _ {A : Type 0} (flat : A → List ℕ) (laid : List ℕ → A) (Good : A 
   parted k us vs x ys h e =
       let a : over (us ++ vs) (flat x ++ ys) ≡ over us (flat x) ++ over vs ys = over-append us vs (flat x) ys (sized x h ∙ sym e) in
       let b : length (over us (flat x)) ≡ n = length-over us (flat x) ∙ sized x h in
-      rw a (sym (ap₂ {C = List A} (λ y l. y ∷ rows k n laid l) (own (over us (flat x) ++ over vs ys) ∙ ap laid (take-at (over us (flat x)) (over vs ys) n b)) (drop-at (over us (flat x)) (over vs ys) n b)))
+      rw a
+      (sym (ap₂ {C = List A} (λ y l. y ∷ rows k n laid l)
+      (own (over us (flat x) ++ over vs ys) ∙ ap laid (take-at (over us (flat x)) (over vs ys) n b))
+      (drop-at (over us (flat x)) (over vs ys) n b)))
 
-  abbrev pub part : ℕ → A → Rd A
-  part at x = make (λ us. laid (over us (flat x))) (each g (take n (drop at t)))
+  abbrev row : ℕ → A → Rd A
+  row = rowOver flat laid n g t
 
   pub loop-rows : (at i : ℕ) (xs : List A) → Every Good xs → at + i * n + length xs * n ≤ length t
-      → eachAt (λ i. part (at + i * n)) i xs
+      → eachAt (λ i. row (at + i * n)) i xs
       ≡ make (λ us. rows (length xs) n laid (over us (joined flat xs))) (each g (take (length xs * n) (drop (at + i * n) t)))
   unfolding eachAt each rows joined over make _>>=_
   loop-rows at i [] h fits = rw zero-mul
@@ -143,7 +116,7 @@ module _ {A : Type 0} (flat : A → List ℕ) (laid : List ℕ → A) (Good : A 
       let size : length ps ≡ n = length-take-le n here (omega (arith, room)) in
       let all : suc (length xs) * n ≡ n + length xs * n = omega (arith, suc-mul (length xs) n) in
       let whole : take (suc (length xs) * n) here ≡ ps ++ qs = ap (λ (j : ℕ). take j here) all ∙ take-add n (length xs * n) here in
-      ap (λ (m : Rd (List A)). part (at + i * n) x >>= (λ y. m >>= (λ ys. ret (y ∷ ys))))
+      ap (λ (m : Rd (List A)). row (at + i * n) x >>= (λ y. m >>= (λ ys. ret (y ∷ ys))))
       (rw next at (loop-rows at (suc i) xs (h .1) (omega (arith, suc-mul i n, suc-mul (length xs) n, fits))))
       ∙ make-then (each g ps) (λ us. laid (over us (flat x))) _
       ∙ each-onward g ps _ _ (λ us e.
@@ -152,9 +125,9 @@ module _ {A : Type 0} (flat : A → List ℕ) (laid : List ℕ → A) (Good : A 
       ∙ sym (each-append g ps qs (λ us. ret (rows (suc (length xs)) n laid (over us (flat x ++ joined flat xs)))))
       ∙ ap (λ (l : List ℕ). make (λ us. rows (suc (length xs)) n laid (over us (flat x ++ joined flat xs))) (each g l)) (sym whole)
 
-  -- a record over such a loop; `wrap` makes it of its parts
+  -- a record over such a loop; `wrap` makes it of its rows
   pub level : {R : Type 0} (wrap : List A → R) (k at : ℕ) (xs : List A) → length xs ≡ k → Every Good xs → at + k * n ≤ length t
-      → make wrap (eachAt (λ i. part (at + i * n)) 0 xs)
+      → make wrap (eachAt (λ i. row (at + i * n)) 0 xs)
       ≡ make (λ us. wrap (rows k n laid (over us (joined flat xs)))) (each g (take (k * n) (drop at t)))
   level {R} wrap k at xs e h fits =
       let z : at + 0 * n ≡ at = omega (arith, zero-mul n) in
@@ -175,7 +148,7 @@ drop-take zero m l = ap (λ (k : ℕ). take k l) (zero-add m)
 drop-take (suc n) m [] = ap (λ (l : List ℕ). drop (suc n) l) (take-nil (suc n + m)) ∙ sym (take-nil m)
 drop-take (suc n) m (x ∷ xs) = ap (λ (k : ℕ). drop (suc n) (take k (x ∷ xs))) (suc-add n m) ∙ drop-take n m xs
 
--- k parts read no more than k · n numbers, where a part reads no more than n
+-- k records read no more than k · n numbers, where a record reads no more than n
 pub rows-own : {A : Type 0} (laid : List ℕ → A) (n : ℕ) → ((ys : List ℕ) → laid ys ≡ laid (take n ys))
     → (k : ℕ) (ys : List ℕ) → rows k n laid ys ≡ rows k n laid (take (k * n) ys)
 unfolding rows
@@ -187,13 +160,14 @@ rows-own {A} laid n own (suc k) ys =
     let tail : drop n (take (suc k * n) ys) ≡ take (k * n) (drop n ys) = ap (λ (j : ℕ). drop n (take j ys)) all ∙ drop-take n (k * n) ys in
     ap₂ {C = List A} (λ y zs. y ∷ zs) head (rows-own laid n own k (drop n ys) ∙ ap (λ (l : List ℕ). rows k n laid l) (sym tail))
 
-times-cons : {A C : Type 0} (n : ℕ) (m : Rd A) (k : List A → Rd C) → times (suc n) m >>= k ≡ m >>= (λ x. times n m >>= (λ xs. k (x ∷ xs)))
+times-cons : {A C : Type 0} (n : ℕ) (m : Rd A) (k : List A → Rd C)
+    → times (suc n) m >>= k ≡ m >>= (λ x. times n m >>= (λ xs. k (x ∷ xs)))
 unfolding times _>>=_
 times-cons n m k = assoc m _ k ∙ onward m (λ x. assoc (times n m) _ k)
 
 -- n values anew over any n old ones: the loop starts from x at each of them, and keeps it where a value's own flag is clear
 pub anew-over : {A : Type 0} (m : Rd A) (x : A) (n : ℕ) (old : List A) → length old ≡ n
-    → make (λ us. over us (replicate n x)) (times n (maybe 128 m)) ≡ make (λ us. over us old) (anew n m x)
+    → onto (replicate n x) (times n (maybe 128 m)) ≡ onto old (anew n m x)
 unfolding anew times over make orElse flag _>>=_
 anew-over m x zero [] h = refl
 anew-over m x zero (y ∷ ys) h = absurd (omega (arith, h))

@@ -1,5 +1,5 @@
--- One number of a part set is one number of the run set: one law for parts of n numbers each, and what a set keeps. By induction on the
--- array. Assumes nothing.
+-- One number of one record set is one number of the joined list set: one law for records of n numbers each, and what a set keeps. By
+-- induction on the array.
 use Prim.Native.Nat.{ℕ, zero, suc, _+_, _*_, _<_}
 use native.Mathlib.Nat.{zero-mul, suc-mul, zero-add, suc-add, not-suc-le-zero, le-of-suc-le-suc}
 use native.Mathlib.Omega.{arith}
@@ -12,7 +12,8 @@ use Rattle.vp8_records.specs.Shape.{Every}
 
 set-append-right : (xs ys : List ℕ) (i a : ℕ) → set (xs ++ ys) (length xs + i) a ≡ xs ++ set ys i a
 set-append-right [] ys i a = ap (λ (k : ℕ). set ys k a) (zero-add i)
-set-append-right (x ∷ xs) ys i a = ap (λ (k : ℕ). set (x ∷ (xs ++ ys)) k a) (suc-add (length xs) i) ∙ ap (λ (l : List ℕ). x ∷ l) (set-append-right xs ys i a)
+set-append-right (x ∷ xs) ys i a =
+    ap (λ (k : ℕ). set (x ∷ (xs ++ ys)) k a) (suc-add (length xs) i) ∙ ap (λ (l : List ℕ). x ∷ l) (set-append-right xs ys i a)
 
 module _ {A : Type 0} (P : A → Type 0) where
   pub every-set : (xs : List A) (j : ℕ) (y : A) → Every P xs → P y → Every P (set xs j y)
@@ -25,9 +26,10 @@ module _ {A : Type 0} (P : A → Type 0) where
   every-at (x ∷ xs) zero z h l = h .0
   every-at (x ∷ xs) (suc j) z h l = every-at xs j z (h .1) (le-of-suc-le-suc l)
 
-  -- flat is a part's run, of n numbers
+  -- flat is a record's numbers, n of them
   pub joined-set : (flat : A → List ℕ) (n : ℕ) → ((x : A) → P x → length (flat x) ≡ n) → (xs : List A) (j l : ℕ) (y z : A) (v : ℕ)
-      → Every P xs → j < length xs → l < n → flat y ≡ set (flat (getD xs j z)) l v → joined flat (set xs j y) ≡ set (joined flat xs) (j * n + l) v
+      → Every P xs → j < length xs → l < n → flat y ≡ set (flat (getD xs j z)) l v
+      → joined flat (set xs j y) ≡ set (joined flat xs) (j * n + l) v
   unfolding joined
   joined-set flat n size [] j l y z v h lt within e = absurd (not-suc-le-zero lt)
   joined-set flat n size (x ∷ xs) zero l y z v h lt within e =

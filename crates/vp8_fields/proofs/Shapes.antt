@@ -1,5 +1,5 @@
--- A nested record takes no more of a run than it holds, and what owning an array of structs tells of each. By induction on the arrays.
--- Assumes nothing.
+-- A nested record takes no more of a list than it holds, and what owning an array of structs tells of each. By induction on the arrays.
+--
 use Prim.Native.Nat.{ℕ}
 use native.Mathlib.Omega.{arith}
 use mathlib.Core.Path.{_≡_, sym}
@@ -14,7 +14,7 @@ use Rattle.vp8_records.specs.Layout.{laidTokens, laidContexts, laidBands, laidM
 use Rattle.vp8_records.specs.Shape.{Every}
 use Rattle.vp8_fields.proofs.InPlace.{rows-own}
 
--- a record takes no more of a run than it holds
+-- a record takes no more of a list than it holds
 pub tokens-own : (ys : List ℕ) → laidTokens ys ≡ laidTokens (take 11 ys)
 tokens-own ys i = record { v = sym (take-take 11 11 ys (omega arith)) i }
 

@@ -1,3 +1,2 @@
 -- What the contracts cite beside the definition.
-pub mod Parts
-pub mod Quiet
+pub mod Rows

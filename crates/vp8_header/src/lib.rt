@@ -166,12 +166,12 @@ fn parse_first(area: &[u8], dec: BoolDecoder, key: bool, seg: Segmentation) -> F
     requires { ⌜ Good (now area) dec 111 ⌝ }
     ensures { λ r. ⌜ Ran (make (firstOf seg) (first key)) (now (area .entry)) dec (r .first) (r .dec) 111 ⌝ }
 {
-    let color_space = vp8_fields::flag_if(area, dec, key);
-    let clamping_type = vp8_fields::flag_if(area, color_space.dec, key);
-    let update = vp8_fields::update_segmentation(area, clamping_type.dec, seg);
+    let color_space = bool_decoder::reads::flag_if(area, dec, key);
+    let clamping_type = bool_decoder::reads::flag_if(area, color_space.dec, key);
+    let update = vp8_fields::segmentation::update_segmentation(area, clamping_type.dec, seg);
     let filter_type = update.dec.read_flag(area);
-    let level = vp8_fields::read_byte(area, filter_type.dec, 6);
-    let sharpness = vp8_fields::read_byte(area, level.dec, 3);
+    let level = bool_decoder::reads::read_byte(area, filter_type.dec, 6);
+    let sharpness = bool_decoder::reads::read_byte(area, level.dec, 3);
     let segmentation = update.segmentation;
     let first = First {
         color_space: color_space.bit,
@@ -215,8 +215,8 @@ fn refresh_inter(area: &[u8], dec: BoolDecoder) -> RefreshRead
 {
     let golden = dec.read_flag(area);
     let alternate = golden.dec.read_flag(area);
-    let to_golden = vp8_fields::byte_if(area, alternate.dec, !golden.bit, 2);
-    let to_alternate = vp8_fields::byte_if(area, to_golden.dec, !alternate.bit, 2);
+    let to_golden = bool_decoder::reads::byte_if(area, alternate.dec, !golden.bit, 2);
+    let to_alternate = bool_decoder::reads::byte_if(area, to_golden.dec, !alternate.bit, 2);
     let bias_golden = to_alternate.dec.read_flag(area);
     let bias_alternate = bias_golden.dec.read_flag(area);
     let entropy = bias_alternate.dec.read_flag(area);
@@ -255,9 +255,9 @@ fn parse_second(area: &[u8], dec: BoolDecoder, key: bool, adj: MbLfAdjustments) 
     requires { ⌜ Good (now area) dec 115 ⌝ }
     ensures { λ r. ⌜ Ran (make (secondOf adj) (second key)) (now (area .entry)) dec (r .second) (r .dec) 115 ⌝ }
 {
-    let deltas = vp8_fields::parse_mb_lf_adjustments(area, dec, adj);
-    let log2 = vp8_fields::read_byte(area, deltas.dec, 2);
-    let quant = vp8_fields::parse_quant_indices(area, log2.dec);
+    let deltas = vp8_fields::deltas::parse_mb_lf_adjustments(area, dec, adj);
+    let log2 = bool_decoder::reads::read_byte(area, deltas.dec, 2);
+    let quant = vp8_fields::quantizer::parse_quant_indices(area, log2.dec);
     let flags = parse_refresh(area, quant.dec, key);
     let mb_lf_adjust = deltas.mb_lf_adjust;
     let quant_indices = quant.quant_indices;
@@ -277,14 +277,14 @@ fn parse_inter(area: &[u8], dec: BoolDecoder, modes: ModeProbs, mv: MvProbs) -> 
     requires { ⌜ Good (now area) dec 386 ⌝ }
     ensures { λ r. ⌜ Ran (make (interOf modes mv) inter) (now (area .entry)) dec (r .inter) (r .dec) 386 ⌝ }
 {
-    let intra = vp8_fields::read_byte(area, dec, 8);
-    let last = vp8_fields::read_byte(area, intra.dec, 8);
-    let golden = vp8_fields::read_byte(area, last.dec, 8);
+    let intra = bool_decoder::reads::read_byte(area, dec, 8);
+    let last = bool_decoder::reads::read_byte(area, intra.dec, 8);
+    let golden = bool_decoder::reads::read_byte(area, last.dec, 8);
     let old_luma = modes.intra_16x16_prob;
-    let luma = vp8_fields::parse_intra_16x16_prob_update(area, golden.dec, old_luma);
+    let luma = vp8_fields::modes::parse_intra_16x16_prob_update(area, golden.dec, old_luma);
     let old_chroma = modes.intra_chroma_prob;
-    let chroma = vp8_fields::parse_intra_chroma_prob_update(area, luma.dec, old_chroma);
-    let motion = vp8_fields::parse_mv_prob_update(area, chroma.dec, mv);
+    let chroma = vp8_fields::modes::parse_intra_chroma_prob_update(area, luma.dec, old_chroma);
+    let motion = vp8_fields::motion::parse_mv_prob_update(area, chroma.dec, mv);
     let intra_16x16_prob = luma.values;
     let intra_chroma_prob = chroma.values;
     let mode_probs = ModeProbs {
@@ -336,9 +336,9 @@ fn parse_third(area: &[u8], dec: BoolDecoder, key: bool, parser: Parser) -> Thir
     let old_coeffs = parser.coeff_prob;
     let old_modes = parser.mode_probs;
     let old_mv = parser.mv_prob;
-    let tokens = vp8_fields::parse_token_prob_update(area, dec, old_coeffs);
+    let tokens = vp8_fields::coefficients::parse_token_prob_update(area, dec, old_coeffs);
     let skip = tokens.dec.read_flag(area);
-    let skip_prob = vp8_fields::byte_if(area, skip.dec, skip.bit, 8);
+    let skip_prob = bool_decoder::reads::byte_if(area, skip.dec, skip.bit, 8);
     let fields = parse_inter_if(area, skip_prob.dec, !key, old_modes, old_mv);
     let coeff_prob = tokens.coeff_prob;
     let inter = fields.inter;
@@ -418,6 +418,7 @@ fn header_of(
     let mode_probs = mode_probs_init_defaults(chunk.key_frame, kept_modes);
     let header_size = dec.pos(area);
     let state = dec.snapshot(area);
+    let bools = dec.bools();
     let mb_cols = blocks(width);
     let mb_rows = blocks(height);
     Header {
@@ -458,7 +459,7 @@ fn header_of(
         bd_value: state.value,
         bd_count: state.count,
         header_size,
-        bools: dec.bools,
+        bools,
         mb_cols,
         mb_rows,
     }

@@ -1,6 +1,6 @@
 //! Reads the flags of every frame of the recordings by both decoders. Call: host FOLDER both|rattle|rust|time
 //! `both` compares the two sums of each frame and prints how many frames and flags there were and a checksum; `rattle` and `rust` run one
-//! side alone; `time` prints the nanoseconds a frame of each, and of how many rounds these are the best.
+//! side alone; `time` prints the nanoseconds a frame of each, and the number of rounds.
 
 #[path = "../../../shared.rs"]
 mod shared;

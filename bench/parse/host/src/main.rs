@@ -1,6 +1,6 @@
 //! Parses every frame of the recordings by both parsers, each frame with a fresh one. Call: host FOLDER both|rattle|rust|time|stack|grown SIZE
 //! `both` compares the two numbers of each frame and prints how many frames there were and a checksum; `rattle` and `rust` run one side
-//! alone; `time` prints the nanoseconds a frame of each, and of how many rounds these are the best. `stack` prints the deepest stack of one
+//! alone; `time` prints the nanoseconds a frame of each, and the number of rounds. `stack` prints the deepest stack of one
 //! of the port's calls; `grown SIZE` parses, by the port alone, each frame that is not longer than 2,048 bytes, made SIZE bytes long at its
 //! end, which is in the last partition, and prints how many there were.
 

@@ -4,6 +4,7 @@ use super::BoolDecoderError;
 use super::ComputePartitionSizesError;
 use super::Header;
 use super::MbLfAdjustments;
+use super::ModeProbs;
 use super::ParseFrameError;
 use super::ParseUncompressedChunkError;
 use super::Parser;
@@ -29,9 +30,10 @@ impl Sum {
         }
     }
 
+    // Each as its two's complement byte.
     fn ints(&mut self, numbers: &[i8]) {
         for n in numbers {
-            self.flags(&[*n < 0, 0 < *n]);
+            self.fold(*n as u8 as u64);
         }
     }
 
@@ -54,10 +56,12 @@ impl Sum {
         self.ints(&a.mb_mode_delta);
     }
 
-    // One probability of each, at a place that only the frame tells, so that none can be left out.
-    fn probs(&mut self, c: &[[[[u8; 11]; 3]; 8]; 4], m: &[[u8; 19]; 2], place: usize) {
+    // One coefficient and one motion probability, at a place that only the frame tells, so that none can be left out; and the modes.
+    fn probs(&mut self, c: &[[[[u8; 11]; 3]; 8]; 4], m: &[[u8; 19]; 2], modes: &ModeProbs, place: usize) {
         self.bytes(&[c[place % 4][place / 4 % 8][place / 32 % 3][place / 96 % 11]]);
         self.bytes(&[m[place % 2][place / 2 % 19]]);
+        self.bytes(&modes.intra_16x16_prob);
+        self.bytes(&modes.intra_chroma_prob);
     }
 
     fn header(&mut self, h: &Header) {
@@ -71,6 +75,10 @@ impl Sum {
         self.bytes(&[h.horiz_scale_code, h.vert_scale_code]);
         self.flags(&[h.color_space, h.clamping_type, h.filter_type]);
         self.bytes(&[h.loop_filter_level, h.sharpness_level]);
+        self.bytes(&[1 << h.log2_nbr_of_dct_partitions, h.log2_nbr_of_dct_partitions]);
+        for size in h.partition_size {
+            self.fold(size as u64);
+        }
         self.quant(&h.quant_indices);
         self.flags(&[h.refresh_entropy_probs, h.refresh_last, h.refresh_golden_frame, h.refresh_alternate_frame]);
         self.bytes(&[h.copy_buffer_to_golden, h.copy_buffer_to_alternate]);
@@ -80,11 +88,7 @@ impl Sum {
         self.fold(h.bd_value as u64);
         self.fold(h.bd_count as u64);
         self.fold(h.header_size as u64);
-        for size in h.partition_size {
-            self.fold(size as u64);
-        }
-        self.probs(&h.coeff_prob, &h.mv_prob, h.header_size as usize);
-        self.bytes(&[h.mode_probs.intra_16x16_prob[1], h.mode_probs.intra_chroma_prob[2]]);
+        self.probs(&h.coeff_prob, &h.mv_prob, &h.mode_probs, h.header_size as usize);
     }
 }
 
@@ -118,7 +122,6 @@ pub fn number(bytes: &[u8]) -> u64 {
     }
     sum.segmentation(&parser.segmentation);
     sum.adjustments(&parser.mb_lf_adjust);
-    sum.probs(&parser.coeff_prob, &parser.mv_prob, place);
-    sum.bytes(&[parser.mode_probs.intra_16x16_prob[2], parser.mode_probs.intra_chroma_prob[1]]);
+    sum.probs(&parser.coeff_prob, &parser.mv_prob, &parser.mode_probs, place);
     sum.0
 }

@@ -1,4 +1,4 @@
--- Past the end the definition gives 0 too. Assumes nothing.
+-- Past the end the definition gives 0 too.
 use mathlib.Core.Path.{sym}
 use lib.ListN.{List·getD-eq-default}
 use borrow.Author.Needs.{needs}

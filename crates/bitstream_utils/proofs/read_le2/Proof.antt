@@ -1,4 +1,4 @@
--- Each byte is the definition's; past the end all are 0. Assumes nothing.
+-- Each byte is the definition's; past the end all are 0.
 use Rattle.bitstream_utils.proofs.Past.{none2}
 use borrow.Author.Needs.{needs}
 use Rattle.bitstream_utils.proofs.read_le2.Statement.{statement}

@@ -1,4 +1,4 @@
--- Two bytes and one more; past the end all are 0. The sum fits since each byte is below 256. Assumes nothing.
+-- Two bytes and one more; past the end all are 0. The sum fits since each byte is below 256.
 use Prim.Native.Nat.{_+_}
 use native.Mathlib.Omega.{arith}
 use Rattle.bitstream_utils.proofs.Past.{none3}

@@ -1,4 +1,4 @@
--- The window is shifted, and where eight bits are free the next byte comes in. Assumes nothing.
+-- The window is shifted, and where eight bits are free the next byte comes in: `kept` and `byte-in`.
 use Rattle.bool_decoder.specs.Window.{vOf}
 use Rattle.bool_decoder.proofs.Over.{kept, byte-in}
 use borrow.Author.Needs.{needs}

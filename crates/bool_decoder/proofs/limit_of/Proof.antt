@@ -1,4 +1,4 @@
--- Each branch is the definition's. Assumes nothing.
+-- Each branch is the definition's, by its test.
 use Prim.Native.Nat.{_/_, _^_}
 use borrow.Author.Tests.{lt-ltb, le-ltb}
 use Rattle.bool_decoder.specs.Window.{limitOf}

@@ -1,4 +1,4 @@
--- A magnitude below 2 ^ 31 is an i32, and so is its negative. Assumes nothing.
+-- A magnitude below 2 ^ 31 is an i32, and so is its negative.
 use mathlib.Core.Path.{_≡_, _∙_}
 use Prim.Native.Nat.{ℕ, zero, suc, _^_, _<_}
 use native.Mathlib.Omega.{arith}

@@ -1,4 +1,4 @@
--- The product stays below 256 times the range. Assumes nothing.
+-- The product stays below 256 times the range.
 use mathlib.Core.Path.{refl}
 use Prim.Native.Nat.{ℕ, _+_, _-_, _*_, _/_, _≤_, _<_}
 use native.Mathlib.Nat.{mul-le-mul, mul-lt-mul-of-pos-left, div-lt-iff-lt-mul}

@@ -21,6 +21,9 @@ pos-requires c κs = search needs
 snapshot-requires : tie.Need-snapshot-requires
 snapshot-requires c κs = search needs
 
+bools-requires : tie.Need-bools-requires
+bools-requires c κs = search needs
+
 blocks-requires : tie.Need-blocks-requires
 blocks-requires c κs = search needs
 
@@ -30,11 +33,12 @@ blocks-requires-2 c κs = search needs
 returns : tie.Need-returns
 unfolding headerOf snapshot probsOver firstOf secondOf thirdOf interOf
 returns c p a b t ex ey ez =
-    let at-snapshot = c .before .before in
+    let at-bools = c .before .before in
+    let at-snapshot = at-bools .before in
     let s = at-snapshot .snapshot .ensures in
     let modes = at-snapshot .before .before .mode-probs-init-defaults .ensures in
     rw (modes, at-snapshot .before .pos .ensures, s .range, s .value, s .count)
-    (rw (c .before .blocks2 .ensures, c .blocks3 .ensures) (rw (ex, ey, ez)))
+    (rw (at-bools .bools .ensures, c .before .blocks2 .ensures, c .blocks3 .ensures) (rw (ex, ey, ez)))
 
 pub header-of-spec : {M : Type 1} → statement M
 header-of-spec =
@@ -45,6 +49,7 @@ header-of-spec =
     mode-probs-init-defaults-requires
     pos-requires
     snapshot-requires
+    bools-requires
     blocks-requires
     blocks-requires-2
     returns)

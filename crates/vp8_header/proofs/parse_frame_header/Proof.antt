@@ -2,7 +2,7 @@
 use denote.Ref.{now}
 use borrow.Author.Needs.{needs}
 use Rattle.bool_decoder.proofs.Chain.{then, done}
-use Rattle.vp8_fields.proofs.Made.{made, same}
+use Rattle.bool_decoder.proofs.Made.{made, same}
 use Rattle.vp8_header.proofs.Built.{built}
 use Rattle.vp8_header.proofs.Whole.{stages}
 use Rattle.vp8_header.proofs.parse_frame_header.Statement.{statement}

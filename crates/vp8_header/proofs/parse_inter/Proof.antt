@@ -4,7 +4,7 @@ use borrow.Author.Needs.{needs}
 use Rattle.rfc6386.specs.Coded.{inter}
 use Rattle.rfc6386.specs.Call.{modesOver}
 use Rattle.bool_decoder.proofs.Chain.{then, done}
-use Rattle.vp8_fields.proofs.Made.{worth, makes, made}
+use Rattle.bool_decoder.proofs.Made.{worth, makes, made}
 use Rattle.vp8_header.specs.Stages.{interOf}
 use Rattle.vp8_header.proofs.parse_inter.Statement.{statement}
 use Rattle.vp8_header.proofs.parse_inter.Tie as tie

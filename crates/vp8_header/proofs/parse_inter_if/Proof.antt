@@ -12,8 +12,7 @@ use Rattle.rfc6386.specs.Runs.{over}
 use Rattle.rfc6386.specs.Call.{mvOver, modesOver}
 use Rattle.bool_decoder.proofs.Chain.{done, upto}
 use Rattle.bool_decoder.proofs.Each.{length-mapped}
-use Rattle.vp8_fields.proofs.InPlace.{make-on, make-off}
-use Rattle.vp8_fields.proofs.Made.{same, worth}
+use Rattle.bool_decoder.proofs.Made.{make-on, make-off, same, worth}
 use Rattle.vp8_fields.proofs.Shapes.{every-of}
 use Rattle.vp8_header.specs.Stages.{interOf}
 use Rattle.vp8_header.proofs.parse_inter_if.Statement.{statement}

@@ -2,7 +2,7 @@
 use mathlib.Core.Path.{sym}
 use borrow.Author.Needs.{needs}
 use Rattle.bool_decoder.proofs.Chain.{then, done}
-use Rattle.vp8_fields.proofs.Made.{worth, makes, made}
+use Rattle.bool_decoder.proofs.Made.{worth, makes, made}
 use Rattle.vp8_header.specs.Stages.{second, secondOf}
 use Rattle.vp8_header.proofs.parse_second.Statement.{statement}
 use Rattle.vp8_header.proofs.parse_second.Tie as tie

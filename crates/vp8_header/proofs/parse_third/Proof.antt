@@ -3,7 +3,7 @@ use mathlib.Core.Path.{sym}
 use borrow.Author.Needs.{needs}
 use Rattle.rfc6386.specs.Call.{probsOf}
 use Rattle.bool_decoder.proofs.Chain.{then, done}
-use Rattle.vp8_fields.proofs.Made.{worth, makes, made}
+use Rattle.bool_decoder.proofs.Made.{worth, makes, made}
 use Rattle.vp8_header.specs.Stages.{third, thirdOf}
 use Rattle.vp8_header.proofs.parse_third.Statement.{statement}
 use Rattle.vp8_header.proofs.parse_third.Tie as tie

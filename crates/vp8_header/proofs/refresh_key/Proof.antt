@@ -2,7 +2,7 @@
 use borrow.Author.Needs.{needs}
 use Rattle.rfc6386.specs.Coded.{refresh}
 use Rattle.bool_decoder.proofs.Chain.{then, done}
-use Rattle.vp8_fields.proofs.Made.{makes}
+use Rattle.bool_decoder.proofs.Made.{makes}
 use Rattle.vp8_header.specs.Stages.{refreshOf}
 use Rattle.vp8_header.proofs.refresh_key.Statement.{statement}
 use Rattle.vp8_header.proofs.refresh_key.Tie as tie

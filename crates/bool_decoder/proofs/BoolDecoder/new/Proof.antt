@@ -1,4 +1,4 @@
--- The loop's invariant: the bytes passed, as one number, and the rest of the area make the area's number. Assumes nothing.
+-- The loop's invariant: the bytes passed, as one number, and the rest of the area make the area's number.
 use mathlib.Core.Path.{_≡_}
 use Prim.Native.Nat.{_+_, _-_, _*_, _^_, _≤_, _<_}
 use native.Mathlib.Omega.{arith}

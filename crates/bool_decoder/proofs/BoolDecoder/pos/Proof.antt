@@ -1,4 +1,4 @@
--- Short of the end c is the lesser, from there on the area's bits. Assumes nothing.
+-- Short of the end c is the lesser, from there on the area's bits.
 use native.Mathlib.Omega.{arith}
 use Rattle.rfc6386.specs.Decoder.{position}
 use borrow.Author.Needs.{needs}

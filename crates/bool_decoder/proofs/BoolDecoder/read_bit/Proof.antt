@@ -1,4 +1,4 @@
--- The bool is chosen by the limit or by the window; then come no doublings, or those of norm and fill. Assumes nothing.
+-- The bool is chosen by the limit or by the window; then come no doublings, or those of norm and fill.
 use mathlib.Core.Path.{refl}
 use native.Mathlib.Nat.{mod-eq-of-lt}
 use native.Mathlib.Omega.{arith}
@@ -32,11 +32,15 @@ norm-requires c κs = search needs
 
 fill-requires : tie.Need-fill-requires
 fill-requires c κs =
-    let start = c .before .before .before .before .before .before .before .before .before .before in
-    let s = c .before .before .before .before .before .before .before .before .split-of .ensures in
-    let big = c .before .before .before .before .before .bigsplit .ensures in
-    let chosen = chosen-one (start .pre .over) (start .args .probability) (s .0) (s .2) big (c .before .before .before .if2 .taken) in
-    (holds-v (start .pre) chosen, omega (arith, start .pre .over .few, start .pre .over .count), c .before .norm .ensures .2)
+    let at-norm = c .before in
+    let at-if = at-norm .before .before in
+    let at-big = at-if .before .before in
+    let at-split = at-big .before .before .before in
+    let start = at-split .before .before in
+    let o = start .pre .over in
+    let s = at-split .split-of .ensures in
+    let chosen = chosen-one o (start .args .probability) (s .0) (s .2) (at-big .bigsplit .ensures) (at-if .if2 .taken) in
+    (holds-v (start .pre) chosen, omega (arith, o .few, o .count), at-norm .norm .ensures .2)
 
 shl-t16 : tie.Need-shl-t16
 shl-t16 c = search needs
@@ -70,23 +74,33 @@ add-t24 c = search needs
 
 returns-2 : tie.Need-returns-2
 returns-2 c =
-    let start = c .before .before .before .before .before .before .before .before .before .before .before .before .before .before in
-    let s = c .before .before .before .before .before .before .before .before .before .before .before .before .split-of .ensures in
-    let big = c .before .before .before .before .before .before .before .before .before .bigsplit .ensures in
-    let n = c .before .before .before .before .before .norm in
-    let chosen = chosen-one (start .pre .over) (start .args .probability) (s .0) (s .2) big (c .before .before .before .before .before .before .before .if2 .taken) in
+    let at-limit = c .before .before in
+    let at-fill = at-limit .before in
+    let at-norm = at-fill .before .before in
+    let at-if = at-norm .before .before in
+    let at-big = at-if .before .before in
+    let at-split = at-big .before .before .before in
+    let start = at-split .before .before in
+    let s = at-split .split-of .ensures in
+    let n = at-norm .norm in
+    let chosen = chosen-one (start .pre .over) (start .args .probability) (s .0) (s .2) (at-big .bigsplit .ensures) (at-if .if2 .taken) in
     doubled (start .pre) chosen (n .result) (n .ensures .0) (n .ensures .1) (n .ensures .2)
-    (mod-eq-of-lt (omega (arith, n .ensures .1))) (c .before .before .limit-of .ensures) (c .before .before .before .fill .ensures)
+    (mod-eq-of-lt (omega (arith, n .ensures .1))) (at-limit .limit-of .ensures) (at-fill .fill .ensures)
 
 returns-3 : tie.Need-returns-3
 returns-3 c =
-    let start = c .before .before .before .before .before .before .before .before .before .before .before .before in
-    let s = c .before .before .before .before .before .before .before .before .before .before .split-of .ensures in
-    let big = c .before .before .before .before .before .before .before .bigsplit .ensures in
-    let n = c .before .before .before .before .norm2 in
-    let chosen = chosen-zero (start .pre .over) (start .args .probability) (s .0) (s .2) big (c .before .before .before .before .before .if2 .left) in
+    let at-limit = c .before .before in
+    let at-fill = at-limit .before in
+    let at-norm = at-fill .before in
+    let at-if = at-norm .before in
+    let at-big = at-if .before .before in
+    let at-split = at-big .before .before .before in
+    let start = at-split .before .before in
+    let s = at-split .split-of .ensures in
+    let n = at-norm .norm2 in
+    let chosen = chosen-zero (start .pre .over) (start .args .probability) (s .0) (s .2) (at-big .bigsplit .ensures) (at-if .if2 .left) in
     doubled (start .pre) chosen (n .result) (n .ensures .0) (n .ensures .1) (n .ensures .2)
-    (mod-eq-of-lt (omega (arith, n .ensures .1))) (c .before .before .limit-of2 .ensures) (c .before .before .before .fill2 .ensures)
+    (mod-eq-of-lt (omega (arith, n .ensures .1))) (at-limit .limit-of2 .ensures) (at-fill .fill2 .ensures)
 
 pub read-bit-spec : {M : Type 1} → statement M
 read-bit-spec =

@@ -1,4 +1,4 @@
--- As read_bit, where the shift is 1, or 0 at a split of 128. Assumes nothing.
+-- As read_bit, where the shift is 1, or 0 at a split of 128.
 use mathlib.Core.Path.{refl}
 use native.Mathlib.Omega.{arith}
 use lib.Dec.{lit≤}
@@ -46,11 +46,14 @@ add-t18 c = search needs
 returns : tie.Need-returns
 unfolding flag
 returns c =
-    let start = c .before .before .before .before .before .before .before .before in
-    let s = c .before .before .before .before .before .before .half-of .ensures in
-    let big = c .before .before .before .before .before .bigsplit .ensures in
-    let chosen = chosen-zero (start .pre .over) 128 (s .0) (omega (arith, s .3)) big (c .before .before .before .if1 .left) in
-    as-it-is (start .pre) chosen (c .before .before .if2 .taken) (c .before .limit-of2 .ensures)
+    let at-even = c .before .before in
+    let at-if = at-even .before in
+    let at-big = at-if .before .before in
+    let at-half = at-big .before in
+    let start = at-half .before .before in
+    let s = at-half .half-of .ensures in
+    let chosen = chosen-zero (start .pre .over) 128 (s .0) (omega (arith, s .3)) (at-big .bigsplit .ensures) (at-if .if1 .left) in
+    as-it-is (start .pre) chosen (at-even .if2 .taken) (c .before .limit-of2 .ensures)
 
 fill-requires-2 : tie.Need-fill-requires-2
 fill-requires-2 c κs = search needs
@@ -70,22 +73,29 @@ add-t23 c = search needs
 returns-2 : tie.Need-returns-2
 unfolding flag
 returns-2 c =
-    let start = c .before .before .before .before .before .before .before .before .before .before .before in
-    let s = c .before .before .before .before .before .before .before .before .before .half-of .ensures in
-    let big = c .before .before .before .before .before .before .before .before .bigsplit .ensures in
-    let chosen = chosen-one (start .pre .over) 128 (s .0) (omega (arith, s .3)) big (c .before .before .before .before .before .before .if1 .taken) in
+    let at-fill = c .before .before .before .before in
+    let at-if = at-fill .before .before in
+    let at-big = at-if .before .before in
+    let at-half = at-big .before in
+    let start = at-half .before .before in
+    let s = at-half .half-of .ensures in
+    let chosen = chosen-one (start .pre .over) 128 (s .0) (omega (arith, s .3)) (at-big .bigsplit .ensures) (at-if .if1 .taken) in
     doubled (start .pre) chosen 1 (omega (arith, s .3)) (omega (arith, s .4)) (lit≤ tt) refl (c .before .before .limit-of .ensures)
-    (c .before .before .before .before .fill .ensures)
+    (at-fill .fill .ensures)
 
 returns-3 : tie.Need-returns-3
 unfolding flag
 returns-3 c =
-    let start = c .before .before .before .before .before .before .before .before .before .before in
-    let s = c .before .before .before .before .before .before .before .before .half-of .ensures in
-    let big = c .before .before .before .before .before .before .before .bigsplit .ensures in
-    let chosen = chosen-zero (start .pre .over) 128 (s .0) (omega (arith, s .3)) big (c .before .before .before .before .before .if1 .left) in
-    doubled (start .pre) chosen 1 (omega (arith, s .1)) (omega (arith, c .before .before .before .before .if2 .left)) (lit≤ tt) refl
-    (c .before .before .limit-of3 .ensures) (c .before .before .before .fill2 .ensures)
+    let at-fill = c .before .before .before in
+    let at-even = at-fill .before in
+    let at-if = at-even .before in
+    let at-big = at-if .before .before in
+    let at-half = at-big .before in
+    let start = at-half .before .before in
+    let s = at-half .half-of .ensures in
+    let chosen = chosen-zero (start .pre .over) 128 (s .0) (omega (arith, s .3)) (at-big .bigsplit .ensures) (at-if .if1 .left) in
+    doubled (start .pre) chosen 1 (omega (arith, s .1)) (omega (arith, at-even .if2 .left)) (lit≤ tt) refl
+    (c .before .before .limit-of3 .ensures) (at-fill .fill2 .ensures)
 
 pub read-flag-spec : {M : Type 1} → statement M
 read-flag-spec =

@@ -1,4 +1,4 @@
--- The loop is Literal's; the value fits since it is below 2 ^ 31. Assumes nothing.
+-- The loop is Literal's; the value fits since it is below 2 ^ 31.
 use Prim.Native.Nat.{_-_}
 use native.Mathlib.Omega.{arith}
 use lib.Pow.{pow-mono}

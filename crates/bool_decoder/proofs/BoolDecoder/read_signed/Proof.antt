@@ -1,4 +1,4 @@
--- The literal, then the sign; the value is small since the magnitude is. Assumes nothing.
+-- The literal, then the sign; the value is small since the magnitude is.
 use mathlib.Core.Path.{_∙_}
 use Prim.Native.Nat.{_^_}
 use native.Mathlib.Omega.{arith}

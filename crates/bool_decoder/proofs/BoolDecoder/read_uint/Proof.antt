@@ -1,4 +1,4 @@
--- Where nothing is refused the inner read goes ahead. Assumes nothing.
+-- Where nothing is refused the inner read goes ahead: `allowed`.
 use mathlib.Core.Path.{sym, _∙_}
 use Rattle.bool_decoder.proofs.Limits.{allowed}
 use native.Mathlib.Nat.{add-zero}

@@ -1,4 +1,4 @@
--- The window's whole part is V's. Assumes nothing.
+-- The window's whole part is V's: `whole-part`.
 use mathlib.Core.Path.{refl, sym}
 use Rattle.rfc6386.specs.Decoder.{whole, countOf}
 use Rattle.bool_decoder.specs.Window.{vOf}

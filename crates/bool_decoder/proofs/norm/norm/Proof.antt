@@ -1,4 +1,4 @@
--- 128 and more need no doubling, 64 and more need one; below, the table's rule. Assumes nothing.
+-- 128 and more need no doubling, 64 and more need one; below, the table's rule.
 use native.Mathlib.Omega.{arith}
 use Rattle.bool_decoder.proofs.Table.{norms, rule}
 use borrow.Author.Needs.{needs}
@@ -16,7 +16,9 @@ array-read-result c = search needs
 
 cast-result : tie.Need-cast-result
 unfolding norms
-cast-result c = record { fits = omega (arith, rule (c .before .before .args .range) (c .before .before .pre .0) (c .before .before .pre .1) .2) }
+cast-result c =
+    let start = c .before .before in
+    record { fits = omega (arith, rule (start .args .range) (start .pre .0) (start .pre .1) .2) }
 
 returns-3 : tie.Need-returns-3
 unfolding norms

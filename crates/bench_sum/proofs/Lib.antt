@@ -1,0 +1,2 @@
+-- Laws of the sum, which callers cite too.
+pub mod Folds

@@ -1,0 +1,30 @@
+-- A flag, then the reads that it picks: `make-bind`, and `make-on` or `make-off`.
+use native.Mathlib.Omega.{arith}
+use borrow.Author.Needs.{needs}
+use Rattle.bool_decoder.proofs.Chain.{then, done, upto}
+use Rattle.rfc6386.specs.Coded.{modes}
+use Rattle.rfc6386.specs.Runs.{over}
+use Rattle.bool_decoder.proofs.Made.{make-bind, make-on, make-off, same}
+use Rattle.vp8_fields.proofs.modes.parse_intra_16x16_prob_update.Statement.{statement}
+use Rattle.vp8_fields.proofs.modes.parse_intra_16x16_prob_update.Tie as tie
+
+read-flag-requires : tie.Need-read-flag-requires
+read-flag-requires c κs = search needs
+
+four-bytes-requires : tie.Need-four-bytes-requires
+four-bytes-requires c κs = search needs
+
+returns : tie.Need-returns
+unfolding modes
+returns c =
+    let b = c .before .before .before .read-flag .ensures in
+    same (make-bind _ _ _) (then _ b (same (make-on _ _ _ (c .before .if1 .taken)) (c .four-bytes .ensures)))
+
+returns-2 : tie.Need-returns-2
+unfolding modes over
+returns-2 c =
+    let b = c .before .before .read-flag .ensures in
+    same (make-bind _ _ _) (upto (omega arith) (then _ b (same (make-off _ _ _ (c .if1 .left)) (done (b .over)))))
+
+pub parse-intra-16x16-prob-update-spec : {M : Type 1} → statement M
+parse-intra-16x16-prob-update-spec = tie.close (tie.spec read-flag-requires four-bytes-requires returns returns-2)
