@@ -14,7 +14,8 @@ use Rattle.vp8_records.specs.Outcome.{numberOf}
 use Rattle.rfc6386.specs.Bytes.{le3}
 use Rattle.rfc6386.specs.Decoder.{bits}
 use Rattle.rfc6386.specs.Coded.{Coded}
-use Rattle.rfc6386.specs.Frame.{Chunk, Opened, shut, opened, keyChunk, chunk, Snapshot, snapshot, sizes, Body, beyond, empty, read, held, decoded, headed, body, follows, inside, decode}
+use Rattle.rfc6386.specs.Frame.{Chunk, Opened, shut, opened, keyChunk, chunk, Snapshot, snapshot, sizes, held, decoded}
+use Rattle.rfc6386.specs.Frame.{Body, beyond, empty, read, headed, body, follows, inside, decode}
 use Rattle.rfc6386.specs.Call.{probsOf, probsOver, shown, apply, headerOf, base, answer, finish, call}
 
 -- what holds of both answers of a test holds of the one it picks

@@ -13,7 +13,8 @@ use borrow.Author.Tests.{ltb-true}
 use Rattle.vp8_probs.specs.Tables.{coeffUpdate, mvUpdate}
 use Rattle.rfc6386.specs.Decoder.{State, start, bits, readBool}
 use Rattle.rfc6386.specs.Reads.{Rd, ret, ask, _>>=_, run, bool, flag, when, litFrom, lit, sint, make, times, each, maybe, orElse}
-use Rattle.rfc6386.specs.Coded.{anew, features, noFeatures, mapped, segments, deltas, quant, refresh, coefficients, motion, modes, inter, noInter, header}
+use Rattle.rfc6386.specs.Coded.{anew, features, noFeatures, mapped, segments, deltas, quant, refresh, coefficients}
+use Rattle.rfc6386.specs.Coded.{motion, modes, inter, noInter, header}
 use Rattle.rfc6386.proofs.Trees.{run-bind}
 use Rattle.rfc6386.proofs.Range.{Asks, asks-bind, read-few}
 
@@ -35,7 +36,8 @@ one p h = record {
   asks = (h, λ b. tt);
 }
 
-both : {A B : Type 0} {m : Rd A} (f : A → Rd B) {a b c e : ℕ} → Counted m a b → ((x : A) → Counted (f x) c e) → Counted (m >>= f) (a + c) (b + e)
+both : {A B : Type 0} {m : Rd A} (f : A → Rd B) {a b c e : ℕ} → Counted m a b → ((x : A) → Counted (f x) c e)
+    → Counted (m >>= f) (a + c) (b + e)
 both {m} f p q = record {
   low = λ l s. rw (run-bind m f l s) (omega (arith, p .low l s, q (run m l s .got) .low l (run m l s .then)));
   high = λ l s. rw (run-bind m f l s) (omega (arith, p .high l s, q (run m l s .got) .high l (run m l s .then)));
@@ -172,7 +174,8 @@ of-inter =
     both _ of-motion (λ m. none _))))))
 
 -- both kinds of frame, with bounds on what is their own: the first two flags, the refresh flags, the last fields
-of-header : (key : Bool) {a b c d e g : ℕ} → Counted (when key flag false) a b → Counted (refresh key) c d → Counted (when (not key) inter noInter) e g
+of-header : (key : Bool) {a b c d e g : ℕ} → Counted (when key flag false) a b → Counted (refresh key) c d
+    → Counted (when (not key) inter noInter) e g
     → Counted (header key) (a + (a + (1 + (1 + (6 + (3 + (1 + (2 + (12 + (c + (1056 + (1 + (0 + (e + 0))))))))))))))
     (b + (b + (99 + (1 + (6 + (3 + (66 + (2 + (37 + (d + (9504 + (1 + (8 + (g + 0))))))))))))))
 unfolding header
@@ -205,5 +208,11 @@ few-doublings (ask p k) l s =
 -- no header makes more than 70,861 doublings
 pub header-doublings : (key : Bool) (area : List ℕ) → run (header key) (bits area) (start area) .then .c ≤ 70861
 unfolding start
-header-doublings true area = omega (arith, few-doublings (header true) (bits area) (start area), key-header .high (bits area) (start area))
-header-doublings false area = omega (arith, few-doublings (header false) (bits area) (start area), inter-header .high (bits area) (start area))
+header-doublings key area = most key (few-doublings (header key) (bits area) (start area))
+  where
+    o : Bool → State
+    o key = run (header key) (bits area) (start area) .then
+
+    most : (key : Bool) → o key .c + 7 * 0 ≤ 0 + 7 * o key .n → o key .c ≤ 70861
+    most true h = omega (arith, h, key-header .high (bits area) (start area))
+    most false h = omega (arith, h, inter-header .high (bits area) (start area))

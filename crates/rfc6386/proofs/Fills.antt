@@ -70,7 +70,8 @@ sizes-fill n area first ss h e = go (ltb (length area) from) refl (ltb (length a
         let fits : from + sum coded ≤ length area = ltb-false _ _ q in
         let total : sum ss ≡ sum coded + sum (last ∷ []) = ap sum (sym is) ∙ sum-append coded (last ∷ []) in
         let one : sum (last ∷ []) ≡ last = omega arith in
-        (ap length (sym is) ∙ length-append coded (last ∷ []) ∙ omega (arith, length-coded (n - 1) area first), omega (arith, total, one, fits))
+        let count : length (coded ++ last ∷ []) ≡ n = length-append coded (last ∷ []) ∙ omega (arith, length-coded (n - 1) area first) in
+        (ap length (sym is) ∙ count, omega (arith, total, one, fits))
 
 -- the header codes at most 8 partitions
 abbrev pub FewParts : Coded → Type 0

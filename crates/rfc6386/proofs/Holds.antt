@@ -1,6 +1,7 @@
 -- Every probability of the header's tree is a byte (Counts), so all its reads are in range, by induction on the tree; and each of its
 -- groups has its length: a law for each way to read a list, then one for each sub-header.
-use Prim.Native.Nat.{ℕ, zero, suc, _≤_, _<_}
+use Prim.Native.Nat.{ℕ, zero, suc, zero-le, _≤_, _<_}
+use native.Mathlib.Omega.{arith}
 use mathlib.Core.Logic.{inl, inr}
 use mathlib.Core.Path.{_≡_, refl, ap}
 use mathlib.Core.Bool.{Bool, true, false, not}
@@ -11,7 +12,8 @@ use lib.ListN.{length}
 use Rattle.vp8_probs.specs.Tables.{coeffUpdate, mvUpdate}
 use Rattle.rfc6386.specs.Decoder.{State, start, bits, readBool}
 use Rattle.rfc6386.specs.Reads.{Rd, ret, ask, flag, when, lit, sint, times, each, maybe}
-use Rattle.rfc6386.specs.Coded.{Features, Segments, Deltas, Inter, anew, features, noFeatures, mapped, segments, deltas, quant, refresh, coefficients, motion, modes, inter, noInter, header}
+use Rattle.rfc6386.specs.Coded.{Features, Segments, Deltas, Inter, anew, features, noFeatures, mapped, segments, deltas, quant}
+use Rattle.rfc6386.specs.Coded.{refresh, coefficients, motion, modes, inter, noInter, header}
 use Rattle.rfc6386.specs.Holds.{AllRanged, Group, Fits}
 use Rattle.rfc6386.proofs.Trees.{Always, always-ret, always-bind, always-skip, lit-small}
 use Rattle.rfc6386.proofs.Range.{Asks, split-within, read-within}
@@ -52,6 +54,11 @@ anew-long : {A : Type 0} (n : ℕ) (m : Rd A) (x : A) → Always (Long n) (anew 
 unfolding anew
 anew-long n m x = times-long n _
 
+-- a group is never longer than the run of n that it is written over, so `over` drops nothing
+pub group-most : {A : Type 0} (n : ℕ) (us : List A) → Group n us → length us ≤ n
+group-most n us (inl e) = rw e zero-le
+group-most n us (inr e) = omega (arith, e)
+
 -- what holds of a read and of the value in its place
 under : {A : Type 0} (P : A → Type 0) (b : Bool) (m : Rd A) (x : A) → Always P m → P x → Always P (when b m x)
 unfolding when
@@ -79,10 +86,12 @@ OfSegments g = Group 4 (g .quantizers) × Group 4 (g .levels) × Group 3 (g .pro
 of-segments : Always OfSegments segments
 unfolding segments
 of-segments =
-    always-skip OfSegments flag _ (λ e. always-skip OfSegments (when e flag false) _ (λ m. always-skip OfSegments (when e flag false) _ (λ d.
-    always-bind OfFeatures OfSegments (when d features noFeatures) _ (under OfFeatures d features noFeatures of-features (inl refl, inl refl)) (λ f hf.
-    always-bind (Group 3) OfSegments (when (mapped m d) (anew 3 (lit 8) 255) []) _ (group-if 3 (mapped m d) _ (anew-long 3 (lit 8) 255)) (λ p hp.
-    always-ret OfSegments _ (hf .0, hf .1, hp))))))
+    always-skip OfSegments flag _ (λ e. always-skip OfSegments (when e flag false) _ (λ m.
+    always-skip OfSegments (when e flag false) _ (λ d.
+    always-bind OfFeatures OfSegments (when d features noFeatures) _
+    (under OfFeatures d features noFeatures of-features (inl refl, inl refl)) (λ f hf.
+    always-bind (Group 3) OfSegments (when (mapped m d) (anew 3 (lit 8) 255) []) _
+    (group-if 3 (mapped m d) _ (anew-long 3 (lit 8) 255)) (λ p hp. always-ret OfSegments _ (hf .0, hf .1, hp))))))
 
 abbrev OfDeltas : Deltas → Type 0
 OfDeltas d = Group 4 (d .frames) × Group 4 (d .modes)

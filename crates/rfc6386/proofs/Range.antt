@@ -25,7 +25,8 @@ unfolding normal
 by-doublings P none enough more zero l s = none s
 by-doublings P none enough more (suc k) l s = go (leb 128 (s .r)) refl (by-doublings P none enough more k l (double l s))
   where
-    go : (b : Bool) → leb 128 (s .r) ≡ b → P k (double l s) (normal k l (double l s)) → P (suc k) s (elim b [ true ↦ s | false ↦ normal k l (double l s) ])
+    go : (b : Bool) → leb 128 (s .r) ≡ b → P k (double l s) (normal k l (double l s))
+        → P (suc k) s (elim b [ true ↦ s | false ↦ normal k l (double l s) ])
     go true e next = enough k s (leb-true _ _ e)
     go false e next = more k l s _ (leb-false _ _ e) next
 
@@ -46,7 +47,8 @@ pub read-few : (l p : ℕ) (s : State) → (readBool l p s .then .c ≤ s .c + 7
 unfolding readBool chosen
 read-few l p s = go (leb (split (s .r) p * 2 ^ l) (s .v))
   where
-    go : (b : Bool) → (normal 7 l (chosen l b (split (s .r) p) s) .c ≤ s .c + 7) × (normal 7 l (chosen l b (split (s .r) p) s) .n ≡ s .n + 1)
+    go : (b : Bool)
+        → (normal 7 l (chosen l b (split (s .r) p) s) .c ≤ s .c + 7) × (normal 7 l (chosen l b (split (s .r) p) s) .n ≡ s .n + 1)
     go true = normal-few 7 l _
     go false = normal-few 7 l _
 

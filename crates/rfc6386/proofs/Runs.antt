@@ -13,7 +13,8 @@ length-over [] xs = refl
 length-over (u ∷ us) [] = refl
 length-over (u ∷ us) (x ∷ xs) = ap suc (length-over us xs)
 
-pub over-append : {A : Type 0} (us vs : List (Option A)) (xs ys : List A) → length xs ≡ length us → over (us ++ vs) (xs ++ ys) ≡ over us xs ++ over vs ys
+pub over-append : {A : Type 0} (us vs : List (Option A)) (xs ys : List A) → length xs ≡ length us
+    → over (us ++ vs) (xs ++ ys) ≡ over us xs ++ over vs ys
 unfolding over
 over-append [] vs [] ys h = refl
 over-append [] vs (x ∷ xs) ys h = absurd (omega (arith, h))

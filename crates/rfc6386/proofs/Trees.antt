@@ -1,4 +1,5 @@
--- Laws of trees: what a run of two reads one after the other is, and what holds of every value that a tree can read. By induction on the tree.
+-- Laws of trees, by induction on the tree: what a run of two reads one after the other is, and what holds of every value that a tree
+-- can read.
 use Prim.Native.Nat.{ℕ, zero, suc, _+_, _*_, _^_, _<_}
 use native.Mathlib.Nat.{pow-suc, add-zero, zero-add, add-suc, suc-add}
 use native.Mathlib.Omega.{arith}
@@ -7,7 +8,8 @@ use mathlib.Core.Bool.{Bool, true, false}
 use Rattle.rfc6386.specs.Decoder.{State, readBool}
 use Rattle.rfc6386.specs.Reads.{Rd, ret, ask, _>>=_, run, flag, bit, litFrom, lit}
 
-pub run-bind : {A B : Type 0} (m : Rd A) (f : A → Rd B) (l : ℕ) (s : State) → run (m >>= f) l s ≡ run (f (run m l s .got)) l (run m l s .then)
+pub run-bind : {A B : Type 0} (m : Rd A) (f : A → Rd B) (l : ℕ) (s : State)
+    → run (m >>= f) l s ≡ run (f (run m l s .got)) l (run m l s .then)
 unfolding run _>>=_
 run-bind (ret a) f l s = refl
 run-bind (ask p k) f l s = run-bind (k (readBool l p s .got)) f l (readBool l p s .then)

@@ -1,4 +1,4 @@
--- The frame header's coded fields, and the tree that reads them: RFC 6386 section 19.2, in the order of parser.rs, whatever the parser kept.
+-- The frame header's coded fields, and the tree that reads them: RFC 6386 section 19.2, in parser.rs' order, whatever the parser kept.
 -- A run of options is empty where its group is not coded, and has `none` where a value of a coded group is not.
 use Prim.Native.Nat.{ℕ, zero, suc, _*_}
 use mathlib.Core.Bool.{Bool, true, false, not, _&&_}
@@ -93,7 +93,17 @@ pub record Refresh : Type 0 where
 unfoldable pub refresh : Bool → Rd Refresh
 refresh true = do
   e ← flag
-  ret (record { golden = true; alternate = true; toGolden = 0; toAlternate = 0; biasGolden = false; biasAlternate = false; entropy = e; last = true })
+  ret
+      (record {
+        golden = true;
+        alternate = true;
+        toGolden = 0;
+        toAlternate = 0;
+        biasGolden = false;
+        biasAlternate = false;
+        entropy = e;
+        last = true;
+      })
 refresh false = do
   g ← flag
   a ← flag

@@ -1,4 +1,5 @@
--- What is read, whatever the bytes: a tree that asks for a bool at a probability and goes on by its answer. `run` is what a decoder makes of it.
+-- What is read, whatever the bytes: a tree that asks for a bool at a probability and goes on by its answer. `run` is what a decoder
+-- makes of it.
 use Prim.Native.Nat.{ℕ, zero, suc, _+_, _*_}
 use mathlib.Core.Bool.{Bool, true, false}
 use mathlib.Core.Option.{Option, none, some}
