@@ -1,5 +1,5 @@
 -- What the caller has of an answer. Of an accepted frame the part is the whole of it, and the header's frame length is its length; of a
--- refusal the part is empty and the header blank. By the contract's equations, and the theorems about calls. Assumes nothing.
+-- refusal the part is empty and the header blank. By the contract's equations, and the theorems about calls.
 use Prim.Native.Nat.{ℕ, _<_}
 use native.Mathlib.Omega.{arith}
 use mathlib.Core.Path.{_≡_, refl, ap, sym, _∙_}

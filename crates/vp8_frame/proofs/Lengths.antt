@@ -1,5 +1,5 @@
 -- The length of an accepted frame by its header is the frame's own: its parts fill it, they are at most 8, and it is short enough that
--- nothing wraps. Assumes nothing.
+-- nothing wraps.
 use Prim.Native.Nat.{ℕ, _%_, _^_, _<_}
 use native.Mathlib.Nat.{mod-eq-of-lt}
 use native.Mathlib.Omega.{arith}
@@ -53,7 +53,8 @@ module _ (p : Parser) (f : List ℕ) (h : call p f .outcome ≡ Accepted) where
       let a = accepted p f h in
       let area : List ℕ = drop (a .k .size) f in
       let small : a .c .log2parts < 4 = rw (a .reading .coded) at (few-parts (a .k .key) (bits area) (start area)) in
-      let is : call p f .header .«log2_nbr_of_dct_partitions» ≡ a .c .log2parts = ap (λ (x : Parsed). x .header .«log2_nbr_of_dct_partitions») (a .answers) in
+      let is : call p f .header .«log2_nbr_of_dct_partitions» ≡ a .c .log2parts =
+      ap (λ (x : Parsed). x .header .«log2_nbr_of_dct_partitions») (a .answers) in
       ap (λ (n : ℕ). 2 ^ n) (mod-eq-of-lt (omega (arith, small, is)))
 
   pub length-is : lengthOf (call p f .header) ≡ length f

@@ -1,5 +1,6 @@
--- Theorems about the lent call, and what its walks share.
+-- Theorems about the lent call and sequences of it, and what its walks share.
 pub mod Same
 pub mod Lengths
 pub mod Answers
+pub mod Served
 pub mod Values

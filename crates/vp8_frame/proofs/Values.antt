@@ -1,5 +1,5 @@
 -- The machine values of a parser's answer and of its parts. Those of the parts stay shut in the walks, which have no need to look into
--- them. Assumes nothing.
+-- them. Each is had from the laws of its type.
 use mathlib.Core.Path.{_≡_, refl, ap}
 use mathlib.Core.Option.{some}
 use mathlib.Core.List.{[], _∷_}

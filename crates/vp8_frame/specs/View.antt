@@ -24,3 +24,17 @@ pub record Framed (p : Parser) (f : List ℕ) (outcome : Outcome) (header : Head
   pub reads : header ≡ call p f .header
   pub refers : part ≡ viewed (call p f .outcome) f
   pub leaves : after ≡ call p f .parser
+
+-- what a caller has of one answer
+pub record Had : Type 0 where
+  pub outcome : Outcome
+  pub header : Header
+  pub part : List ℕ
+
+-- the contract of `parse_frame` as one of a sequence: what is had of the answer, and what the record holds afterwards
+abbrev pub Lent : Parser → List ℕ → Had → Parser → Type 0
+Lent p f a q = Framed p f (a .outcome) (a .header) (a .part) q
+
+-- what the definition gives
+abbrev pub had : Parser → List ℕ → Had
+had p f = record { outcome = call p f .outcome; header = call p f .header; part = viewed (call p f .outcome) f }

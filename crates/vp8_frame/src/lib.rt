@@ -1,4 +1,5 @@
-// The lent forms of parser.rs, thin functions over the call by value: a parser behind `&mut`, and a frame that refers to the caller's bytes.
+// The lent forms of parser.rs, thin functions over the call by value: a parser behind `&mut`, and a frame that refers to the caller's
+// bytes.
 use vp8_records::Header;
 use vp8_records::Outcome;
 use vp8_records::Parser;
@@ -7,8 +8,11 @@ ghost use Rattle.vp8_frame.specs.View.{viewed, Framed};
 
 // A header and the whole frame that it was read from; of a refusal, the blank header and an empty part.
 pub struct Frame<'a> {
+    // How the call went.
     pub outcome: Outcome,
+    // What the frame's header says; blank where it was refused (RFC 6386 section 19.2).
     pub header: Header,
+    // The caller's bytes: all of the frame, or none where it was refused.
     pub bitstream: &'a [u8],
 }
 

@@ -1,5 +1,5 @@
 -- What holds at the head of the loop: the frames that are left, from the state so far, end where all of them end. A turn takes the first
--- of them. Assumes nothing.
+-- of them, by the contract of `parse`.
 use Prim.Native.Nat.{ℕ, _+_, _-_, _≤_, _<_, min}
 use native.Mathlib.Numerals.{add-one}
 use native.Mathlib.Omega.{arith}
@@ -12,9 +12,10 @@ use Rattle.vp8_records.specs.declared.Outcome.{Outcome}
 use Rattle.vp8_records.specs.declared.Outcome.the-variants.{Accepted, ChunkTooShort, InvalidStartCode, InvalidPartitionSize, EmptyArea, EndOfHeader, FrameTooLong}
 use Rattle.vp8_records.specs.declared.Parser.{Parser}
 use Rattle.vp8_records.specs.declared.Parsed.{Parsed}
+use Rattle.vp8_records.specs.Shape.{Sized}
 use Rattle.rfc6386.specs.Call.{call, calls, after}
 use Rattle.rfc6386.specs.Fills.{cuts}
-use Rattle.vp8_sequence.specs.Fold.{one, accepted}
+use Rattle.vp8_sequence.specs.Fold.{one, accepted, Folds}
 
 pub record Turn (p₀ : Parser) (ns f : List ℕ) (p : Parser) (count at i : ℕ) : Type 0 where
   pub turns : i ≤ length ns
@@ -68,7 +69,8 @@ module _ (p : Parser) (ns f : List ℕ) (at i end : ℕ) (r : Parsed) (h : i < l
       ap (λ (fs : List (List ℕ)). after p fs) first-is
       ∙ ap (λ (x : Parsed). after (x .parser) (cuts (drop (i + 1) ns) (drop end f))) (sym q)
 
-  answers-next : accepted (calls p (cuts (drop i ns) (drop at f))) ≡ one (r .outcome) + accepted (calls (r .parser) (cuts (drop (i + 1) ns) (drop end f)))
+  answers-next : accepted (calls p (cuts (drop i ns) (drop at f)))
+      ≡ one (r .outcome) + accepted (calls (r .parser) (cuts (drop (i + 1) ns) (drop end f)))
   unfolding calls accepted
   answers-next =
       ap (λ (fs : List (List ℕ)). accepted (calls p fs)) first-is
@@ -86,8 +88,8 @@ turn {p₀} {ns} {f} {p} {count} {at} {i} {end} {k} {r} t h e q o = record {
 }
 
 pub ended : {p₀ : Parser} {ns f : List ℕ} {p : Parser} {count at i : ℕ} → Turn p₀ ns f p count at i → length ns ≤ i
-    → (p ≡ after p₀ (cuts ns f)) × (count ≡ accepted (calls p₀ (cuts ns f)))
+    → Sized p₀ → Folds p₀ (cuts ns f) p count
 unfolding after calls accepted cuts
-ended {p₀} {ns} {f} {p} {count} {at} {i} t h =
+ended {p₀} {ns} {f} {p} {count} {at} {i} t h s =
     let none : drop i ns ≡ [] = drop-of-length-le ns h in
-    (rw none at (t .state), omega (arith, rw none at (t .answers)))
+    record { state = rw none at (t .state); count = omega (arith, rw none at (t .answers)); sized = s }

@@ -1,18 +1,40 @@
--- Demand 3 of running code: `parse_frames` on a fresh parser keeps, of each of the 1,126 numbers, the one last written since the latest
--- frame that cuts off the past, else its starting value; and no other parser record meets that. By the contract and `last-writer`.
--- Assumes nothing.
+-- Demand 3 of running code: what `parse_frames` leaves and counts is that of the calls of `parse`, one after the other, so the laws of
+-- answered calls hold of it. By its contract alone, with no premise on the record that is passed in.
 use Prim.Native.Nat.{ℕ}
-use mathlib.Core.Path.{_≡_, ap, _∙_}
+use mathlib.Core.Path.{_≡_, ap, sym, _∙_}
 use mathlib.Core.List.{List, map}
+use mir.Val.{Val}
+use denote.Laws.{Is}
 use Rattle.vp8_records.specs.declared.Parser.{Parser}
+use Rattle.vp8_records.specs.declared.Parsed.{Parsed}
 use Rattle.vp8_records.specs.Start.{fresh}
-use Rattle.rfc6386.specs.Call.{after}
-use Rattle.rfc6386.specs.Fills.{cuts}
+use Rattle.vp8_records.proofs.Parser as Held
+use Rattle.rfc6386.specs.Decoder.{pick}
 use Rattle.rfc6386.specs.Runs.{or}
-use Rattle.rfc6386_history.specs.History.{writes, since, last}
+use Rattle.rfc6386_history.specs.History.{anyCutter, writes, since, last}
 use Rattle.rfc6386_history.specs.Kept.{kept}
-use Rattle.rfc6386_history.proofs.History.{last-writer}
+use Rattle.rfc6386_history.specs.Answered.{Answered, ByValue}
+use Rattle.rfc6386_history.proofs.History.{last-writer, last-writer-from}
+use Rattle.rfc6386_history.proofs.Answered.{parse-answers}
+use Rattle.rfc6386_history.proofs.Numbers.{held-only}
+use Rattle.vp8_sequence.specs.Fold.{accepted, Folds}
 
-pub kept-by-code : (p : Parser) (ns f : List ℕ) → p ≡ after fresh (cuts ns f) → (i : ℕ)
-    → kept p i ≡ or (last (map (λ x. writes x i) (since (cuts ns f)))) (kept fresh i)
-kept-by-code p ns f e i = ap (λ (q : Parser). kept q i) e ∙ last-writer (cuts ns f) i
+-- whatever answers calls of `parse` give, one after the other: the record that is left, and how many are accepted
+pub folds-answers : {p q s : Parser} {fs : List (List ℕ)} {n : ℕ} {rs : List Parsed} → Folds p fs q n → Answered Parsed ByValue p fs rs s
+    → (q ≡ s) × (n ≡ accepted rs)
+folds-answers f a = (f .state ∙ sym (parse-answers a .1), f .count ∙ ap accepted (sym (parse-answers a .0)))
+
+-- each of the 1,126 numbers is the one last written since the latest frame that cuts off the past, else that of the parser it began with
+pub kept-by-code : {p q : Parser} {fs : List (List ℕ)} {n : ℕ} → Folds p fs q n → (i : ℕ)
+    → kept q i ≡ or (last (map (λ x. writes x i) (since fs))) (kept (pick (anyCutter fs) fresh p) i)
+kept-by-code {p} {fs = fs} f i = ap (λ (z : Parser). kept z i) (f .state) ∙ last-writer-from p fs i (f .sized)
+
+-- else its starting value, if that parser was fresh
+pub kept-from-fresh : {q : Parser} {fs : List (List ℕ)} {n : ℕ} → Folds fresh fs q n → (i : ℕ)
+    → kept q i ≡ or (last (map (λ x. writes x i) (since fs))) (kept fresh i)
+kept-from-fresh {fs = fs} f i = ap (λ (z : Parser). kept z i) (f .state) ∙ last-writer fs i
+
+-- and of all records that code can hold no other has these numbers
+pub no-other : {q : Parser} {fs : List (List ℕ)} {n : ℕ} → Folds fresh fs q n → (p : Parser) (vs : List Val) → Is Held.the-row p vs
+    → ((i : ℕ) → kept p i ≡ or (last (map (λ x. writes x i) (since fs))) (kept fresh i)) → p ≡ q
+no-other {fs = fs} f p vs held h = held-only p vs held fs h ∙ sym (f .state)

@@ -1,9 +1,13 @@
--- How many of a list of answers are accepted.
+-- Frames over one parser: the state after them, and how many were accepted.
 use Prim.Native.Nat.{ℕ, _+_}
+use mathlib.Core.Path.{_≡_}
 use mathlib.Core.List.{List, [], _∷_}
 use Rattle.vp8_records.specs.declared.Outcome.{Outcome}
 use Rattle.vp8_records.specs.declared.Outcome.the-variants.{Accepted, ChunkTooShort, InvalidStartCode, InvalidPartitionSize, EmptyArea, EndOfHeader, FrameTooLong}
 use Rattle.vp8_records.specs.declared.Parsed.{Parsed}
+use Rattle.vp8_records.specs.declared.Parser.{Parser}
+use Rattle.vp8_records.specs.Shape.{Sized}
+use Rattle.rfc6386.specs.Call.{calls, after}
 
 abbrev pub one : Outcome → ℕ
 one Accepted = 1
@@ -14,6 +18,14 @@ one EmptyArea = 0
 one EndOfHeader = 0
 one (FrameTooLong length) = 0
 
+-- how many of a list of answers are accepted
 unfoldable pub accepted : List Parsed → ℕ
 accepted [] = 0
 accepted (r ∷ rs) = one (r .outcome) + accepted rs
+
+-- the contract of `parse_frames`, over the parser p and these frames: the parser that is left, and the count. That p is sized is no
+-- promise but known of every parser that a caller can pass, and here for those who use the contract
+pub record Folds (p : Parser) (frames : List (List ℕ)) (q : Parser) (n : ℕ) : Type 0 where
+  pub state : q ≡ after p frames
+  pub count : n ≡ accepted (calls p frames)
+  pub sized : Sized p

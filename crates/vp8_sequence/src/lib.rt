@@ -3,16 +3,18 @@ use vp8_records::Outcome;
 use vp8_records::Parser;
 ghost use mathlib.Core.Path.{_≡_};
 ghost use Prim.Native.Nat.{_+_, _≤_, min};
-ghost use Rattle.rfc6386.specs.Call.{after, calls};
 ghost use Rattle.rfc6386.specs.Fills.{cuts};
-ghost use Rattle.vp8_sequence.specs.Fold.{one, accepted};
+ghost use Rattle.vp8_sequence.specs.Fold.{one, Folds};
 
 // The state after all frames, and how many of them were accepted.
 pub struct Folded {
+    // What is kept after the last frame.
     pub parser: Parser,
+    // How many were accepted.
     pub accepted: usize,
 }
 
+// 1 for an accepted frame.
 fn count_one(outcome: Outcome) -> usize
     ensures { λ r. ⌜ r ≡ one outcome ⌝ }
 {
@@ -42,7 +44,7 @@ fn end_of(size: usize, at: usize, length: u32) -> usize
 
 // The frames stand one after another in `bytes`, with these lengths.
 pub fn parse_frames(parser: Parser, bytes: &[u8], lengths: &[u32]) -> Folded
-    ensures { λ r. ⌜ (r .parser ≡ after parser (cuts (now (lengths .entry)) (now (bytes .entry)))) × (r .accepted ≡ accepted (calls parser (cuts (now (lengths .entry)) (now (bytes .entry))))) ⌝ }
+    ensures { λ r. ⌜ Folds parser (cuts (now (lengths .entry)) (now (bytes .entry))) (r .parser) (r .accepted) ⌝ }
 {
     let mut state = parser;
     let mut count: usize = 0;

@@ -1,7 +1,7 @@
 -- `vp8_frame::parse_frame` meets its contract: a walk of its MIR, by hand. The borrow is opened, the record is copied out and passed to
--- `parse` with the slice, the record that came back is stored, and the borrow is closed at it; then `part_of` gives the part, and the frame
--- is put together. Of the two callees the walk knows that they meet their contracts, and no more. The machine values of a record's parts stay
--- shut, and where a field lies is said by a lemma: the walk has no need to compute either. Assumes nothing.
+-- `parse` with the slice, the record that came back is stored, and the borrow is closed at it; then `part_of` gives the part, and the
+-- frame is put together. Of the two callees the walk knows that they meet their contracts, and no more. The machine values of a record's
+-- parts stay shut, and where a field lies is said by a lemma: the walk has no need to compute either.
 use mathlib.Core.Path.{_≡_, refl, ap, _∙_, subst}
 use Prim.Native.Nat.{ℕ}
 use mathlib.Core.List.{[], _∷_, List}
@@ -86,7 +86,8 @@ Parse 𝓤 H A mem run = tripleOf 𝓤 H A parse.signature (parse.spec 𝓤 H A 
 abbrev Part : {M : Type 1} (𝓤 : URA M) (H : Heap 𝓤) (A : Atoms 𝓤) (mem : Memory → SProp 𝓤) (run : Routine → Fun 𝓤) → Contract 𝓤
 Part 𝓤 H A mem run = tripleOf 𝓤 H A part.signature (part.spec 𝓤 H A mem run)
 
-module _ {M : Type 1} (𝓤 : URA M) (H : Heap 𝓤) (A : Atoms 𝓤) (W : Given 𝓤 H A) (at-mem : Memory → SProp 𝓤) (run : Routine → Fun 𝓤) (κ κ′ : Lft) (q q′ : Share) (b o : ℕ) (γ : GName) (h : Parser) (s : RefT (List ℕ)) where
+module _ {M : Type 1} (𝓤 : URA M) (H : Heap 𝓤) (A : Atoms 𝓤) (W : Given 𝓤 H A) (at-mem : Memory → SProp 𝓤) (run : Routine → Fun 𝓤)
+    (κ κ′ : Lft) (q q′ : Share) (b o : ℕ) (γ : GName) (h : Parser) (s : RefT (List ℕ)) where
   abbrev Arg : Type 0
   Arg = RefT Parser × (RefT (List ℕ) × Unit {0})
 
@@ -120,10 +121,12 @@ module _ {M : Type 1} (𝓤 : URA M) (H : Heap 𝓤) (A : Atoms 𝓤) (W : Given
   to = (((κ′, tt), (q′, tt), tt, (h, (s, tt)), passed), tt)
 
   asked : ent 𝓤 (onEntry 𝓤 H A parse.signature (κ′, tt) (q′, tt) (h, (s, tt)) passed) (Parse 𝓤 H A at-mem run .pre to)
-  asked = qed W ((‵ (flft κ′ q′) ⊛ ‵ ftrue) ∷ ‵ (owns (R ∷ ShrSlice (named 0) κ′ u8 ∷ []) (h, (s, tt)) passed) ∷ []) ∵ join ! $ frame ! $ done !
+  asked = qed W ((‵ (flft κ′ q′) ⊛ ‵ ftrue) ∷ ‵ (owns (R ∷ ShrSlice (named 0) κ′ u8 ∷ []) (h, (s, tt)) passed) ∷ []) ∵ join ! $ frame ! $
+      done !
 
   -- the token and the slice give what the callee asks, and the slice is kept
-  gives : Is R h (mach ∷ []) → ent 𝓤 (⋆ 𝓤 H A ((‵ (flft κ′ q′) ⊛ ‵ ftrue) ∷ ‵ (owns (ShrSlice (named 1) κ′ u8 ∷ []) (s, tt) (v ∷ [], tt)) ∷ [])) (sep 𝓤 (Parse 𝓤 H A at-mem run .pre to) (sem 𝓤 H A Own))
+  gives : Is R h (mach ∷ []) → ent 𝓤 (⋆ 𝓤 H A ((‵ (flft κ′ q′) ⊛ ‵ ftrue) ∷ ‵
+      (owns (ShrSlice (named 1) κ′ u8 ∷ []) (s, tt) (v ∷ [], tt)) ∷ [])) (sep 𝓤 (Parse 𝓤 H A at-mem run .pre to) (sem 𝓤 H A Own))
   gives g =
       qed W ((‵ (flft κ′ q′) ⊛ ‵ ftrue) ∷ ‵ (owns (ShrSlice (named 1) κ′ u8 ∷ []) (s, tt) (v ∷ [], tt)) ∷ []) ∵
       move ! (1 ∷ []) $ fsplit ! $ use1 W (‵ Own ⊛ ‵ Own) (shr-slice-copy 𝓤 H A W (named 1) κ′ u8 .twice s (v ∷ [])) $ split ! $
@@ -154,89 +157,149 @@ module _ {M : Type 1} (𝓤 : URA M) (H : Heap 𝓤) (A : Atoms 𝓤) (W : Given
   abbrev to′ : Outcome → Part 𝓤 H A at-mem run .Ghost
   to′ n = (((κ′, tt), (q′, tt), tt, (s, (n, tt)), passed′ n), tt)
 
-  asked′ : (n : Outcome) → ent 𝓤 (onEntry 𝓤 H A part.signature (κ′, tt) (q′, tt) (s, (n, tt)) (passed′ n)) (Part 𝓤 H A at-mem run .pre (to′ n))
-  asked′ n = qed W ((‵ (flft κ′ q′) ⊛ ‵ ftrue) ∷ ‵ (owns (ShrSlice (named 0) κ′ u8 ∷ O.the-row ∷ []) (s, (n, tt)) (passed′ n)) ∷ []) ∵ join ! $ frame ! $ done !
+  asked′ : (n : Outcome) → ent 𝓤 (onEntry 𝓤 H A part.signature (κ′, tt) (q′, tt) (s, (n, tt)) (passed′ n))
+      (Part 𝓤 H A at-mem run .pre (to′ n))
+  asked′ n = qed W ((‵ (flft κ′ q′) ⊛ ‵ ftrue) ∷ ‵ (owns (ShrSlice (named 0) κ′ u8 ∷ O.the-row ∷ []) (s, (n, tt)) (passed′ n)) ∷ []) ∵
+      join ! $ frame ! $ done !
 
-  gives′ : (n : Outcome) → Is O.the-row n (oval n ∷ []) → ent 𝓤 (⋆ 𝓤 H A ((‵ (flft κ′ q′) ⊛ ‵ ftrue) ∷ ‵ Own ∷ [])) (sep 𝓤 (Part 𝓤 H A at-mem run .pre (to′ n)) (sem 𝓤 H A Own))
+  gives′ : (n : Outcome) → Is O.the-row n (oval n ∷ []) → ent 𝓤 (⋆ 𝓤 H A ((‵ (flft κ′ q′) ⊛ ‵ ftrue) ∷ ‵ Own ∷ []))
+      (sep 𝓤 (Part 𝓤 H A at-mem run .pre (to′ n)) (sem 𝓤 H A Own))
   gives′ n fits =
       qed W ((‵ (flft κ′ q′) ⊛ ‵ ftrue) ∷ ‵ Own ∷ []) ∵
       move ! (1 ∷ []) $ use1 W (‵ Own ⊛ ‵ Own) (shr-slice-copy 𝓤 H A W (named 1) κ′ u8 .twice s (v ∷ [])) $ split ! $
-      nothing ! $ owned ! O.the-row (Is O.the-row) (EL.makes O.the-type O′.the-plain 𝓤 H A) n _ fits $ fjoin ! $ move ! (1 ∷ 0 ∷ []) $ fjoin ! $
+      nothing ! $ owned ! O.the-row (Is O.the-row) (EL.makes O.the-type O′.the-plain 𝓤 H A) n _ fits $ fjoin ! $ move ! (1 ∷ 0 ∷ []) $
+      fjoin ! $
       move ! (2 ∷ 0 ∷ []) $ use2 W (raw (Part 𝓤 H A at-mem run .pre (to′ n))) (asked′ n) $ frame ! $ done !
 
   -- what `part_of` says of the part t, at the outcome n
   abbrev Refers : Outcome → RefT (List ℕ) → Type 0
   Refers n t = (now t ≡ viewed n (now s)) × (t .ptr ≡ s .ptr)
 
-  said′ : (n : Outcome) (t : RefT (List ℕ)) → ent 𝓤 (ensured 𝓤 H A part.ended (part.clauses 𝓤 H A at-mem run) (κ′, tt) (s, (n, tt)) tt t) (fact 𝓤 (Refers n t))
+  said′ : (n : Outcome) (t : RefT (List ℕ)) → ent 𝓤 (ensured 𝓤 H A part.ended (part.clauses 𝓤 H A at-mem run) (κ′, tt) (s, (n, tt)) tt t)
+      (fact 𝓤 (Refers n t))
   said′ n t = exE 𝓤 _ (λ ws. snd∗ 𝓤 (sem 𝓤 H A (lasts part.ended (κ′, tt) (s, (n, tt)) ws)) (fact 𝓤 (Refers n t)))
 
   part-is : (t : RefT (List ℕ)) (w : Val) → Is (ShrSlice (named 0) κ′ u8) t (w ∷ []) → Is (ShrSlice (named 1) κ′ u8) t (vof t ∷ [])
   part-is t w is = subst (λ (x : List Val). Is (ShrSlice (named 1) κ′ u8) t x) (shr-slice-tells (named 0) κ′ u8 t (w ∷ []) is) is
 
   -- the frame's relation, from its fields'
-  frame-is : (r : Parsed) (u : Val) → Is P.the-row r (u ∷ []) → (t : RefT (List ℕ)) → Is (ShrSlice (named 1) κ′ u8) t (vof t ∷ []) → Is (F.the-row α) (frm r t) (fval (frm r t) ∷ [])
+  frame-is : (r : Parsed) (u : Val) → Is P.the-row r (u ∷ []) → (t : RefT (List ℕ)) → Is (ShrSlice (named 1) κ′ u8) t (vof t ∷ [])
+      → Is (F.the-row α) (frm r t) (fval (frm r t) ∷ [])
   unfolding hval oval
   frame-is r u is t p = LL.owes (F.the-type α) (F′.the-laws α) (frm r t) (outcome-is r u is, (header-is r u is, (p, tt)))
 
   exits : (r : Parsed) (u : Val) → Is P.the-row r (u ∷ []) → (t : RefT (List ℕ)) → r ≡ found → Refers (r .outcome) t
-      → ent 𝓤 (⋆ 𝓤 H A (‵ (ShrSlice (named 0) κ′ u8 .own t (vof t ∷ [])) ∷ (‵ (flft κ′ q′) ⊛ ‵ ftrue) ∷ ‵ Own ∷ ‵ (fobs γ (R .coded .code (r .parser))) ∷ ‵ (fbor κ (Body (mem R) b o γ)) ∷ ‵ (flft κ q) ∷ [])) (Post (fval (frm r t)))
+      → ent 𝓤 (⋆ 𝓤 H A (‵ (ShrSlice (named 0) κ′ u8 .own t (vof t ∷ [])) ∷ (‵ (flft κ′ q′) ⊛ ‵ ftrue) ∷ ‵ Own ∷ ‵
+      (fobs γ (R .coded .code (r .parser))) ∷ ‵ (fbor κ (Body (mem R) b o γ)) ∷ ‵ (flft κ q) ∷ [])) (Post (fval (frm r t)))
   unfolding hval oval
   exits r u is t e e′ =
-      qed W (‵ (ShrSlice (named 0) κ′ u8 .own t (vof t ∷ [])) ∷ (‵ (flft κ′ q′) ⊛ ‵ ftrue) ∷ ‵ Own ∷ ‵ (fobs γ (R .coded .code (r .parser))) ∷ ‵ (fbor κ (Body (mem R) b o γ)) ∷ ‵ (flft κ q) ∷ []) ∵
-      suffices ! _ (ends-at 𝓤 H A frame′.ended stayed (frame′.clauses 𝓤 H A at-mem run) W (((κ, (κ′, tt)), (q, (q′, tt)), tt, a, vals), tt) (fval (frm r t)) (frm r t) (r .parser, (tt, tt)) (tt, (tt, tt))) $
-      says ! (record { says = ap (λ (x : Parsed). x .outcome) e; reads = ap (λ (x : Parsed). x .header) e; refers = e′ .0 ∙ ap (λ (x : Parsed). viewed (x .outcome) (now s)) e; leaves = ap (λ (x : Parsed). x .parser) e }, e′ .1) $
+      qed W (‵ (ShrSlice (named 0) κ′ u8 .own t (vof t ∷ [])) ∷ (‵ (flft κ′ q′) ⊛ ‵ ftrue) ∷ ‵ Own ∷ ‵
+      (fobs γ (R .coded .code (r .parser))) ∷ ‵ (fbor κ (Body (mem R) b o γ)) ∷ ‵ (flft κ q) ∷ []) ∵
+      suffices ! _ (ends-at 𝓤 H A frame′.ended stayed (frame′.clauses 𝓤 H A at-mem run) W
+      (((κ, (κ′, tt)), (q, (q′, tt)), tt, a, vals), tt) (fval (frm r t)) (frm r t) (r .parser, (tt, tt)) (tt, (tt, tt))) $
+      says ! (
+        record {
+          says = ap (λ (x : Parsed). x .outcome) e;
+          reads = ap (λ (x : Parsed). x .header) e;
+          refers = e′ .0
+              ∙ ap (λ (x : Parsed). viewed (x .outcome) (now s)) e;
+          leaves = ap (λ (x : Parsed). x .parser) e;
+        },
+        e′ .1,
+      ) $
       move ! (5 ∷ 1 ∷ []) $ join ! $ frame ! $ move ! (2 ∷ 3 ∷ []) $ feqI ! (List Val) (vptr b o ∷ []) (vptr b o ∷ []) refl $ fjoin3 ! $
       nothing ! $ move ! (3 ∷ 0 ∷ []) $ fjoin ! $ move ! (1 ∷ 0 ∷ []) $ fjoin ! $ frame ! $
-      nothing ! $ move ! (1 ∷ 0 ∷ []) $ fjoin ! $ owned ! Hd.the-row (Is Hd.the-row) (LL.makes Hd.the-type Hd′.the-plain 𝓤 H A) (r .header) _ (header-is r u is) $ fjoin ! $ owned ! O.the-row (Is O.the-row) (EL.makes O.the-type O′.the-plain 𝓤 H A) (r .outcome) _ (outcome-is r u is) $ fjoin ! $ by ! (own-shut 𝓤 H A W (F.the-type α) (F′.the-laws α) (r .outcome, (r .header, (t, tt))))
+      nothing ! $ move ! (1 ∷ 0 ∷ []) $ fjoin ! $ owned ! Hd.the-row (Is Hd.the-row) (LL.makes Hd.the-type Hd′.the-plain 𝓤 H A)
+      (r .header) _ (header-is r u is) $ fjoin ! $ owned ! O.the-row (Is O.the-row) (EL.makes O.the-type O′.the-plain 𝓤 H A)
+      (r .outcome) _ (outcome-is r u is) $ fjoin ! $ by ! (own-shut 𝓤 H A W (F.the-type α) (F′.the-laws α)
+      (r .outcome, (r .header, (t, tt))))
 
-  module _ (C : Calls 𝓤 H) (Λ : Loops 𝓤 H) (fm : FmC 𝓤 H (W .laws) C) (known : Triple 𝓤 (C #parse) (Parse 𝓤 H A at-mem run)) (known′ : Triple 𝓤 (C #part) (Part 𝓤 H A at-mem run)) where
-    walk : Is (ShrSlice (named 1) κ′ u8) s (v ∷ []) → ent 𝓤 (onEntry 𝓤 H A frame′.signature (κ, (κ′, tt)) (q, (q′, tt)) a vals) (WpFn 𝓤 H C Λ code.function (vptr b o ∷ v ∷ []) Post)
+  module _ (C : Calls 𝓤 H) (Λ : Loops 𝓤 H) (fm : FmC 𝓤 H (W .laws) C) (known : Triple 𝓤 (C #parse) (Parse 𝓤 H A at-mem run))
+      (known′ : Triple 𝓤 (C #part) (Part 𝓤 H A at-mem run)) where
+    walk : Is (ShrSlice (named 1) κ′ u8) s (v ∷ []) → ent 𝓤 (onEntry 𝓤 H A frame′.signature (κ, (κ′, tt)) (q, (q′, tt)) a vals)
+        (WpFn 𝓤 H C Λ code.function (vptr b o ∷ v ∷ []) Post)
     walk p =
-        qed W ((‵ (flft κ q) ⊛ ‵ (flft κ′ q′) ⊛ ‵ ftrue) ∷ ‵ (owns (MutRef (named 0) κ R ∷ ShrSlice (named 1) κ′ u8 ∷ []) a vals) ∷ []) ∵ enter ! C Λ code.function (vptr b o ∷ v ∷ []) _ $
-        alloc1 ! (λ l₀. alloc1 ! (λ l₁. alloc1 ! (λ l₂. alloc1 ! (λ l₃. alloc1 ! (λ l₄. alloc1 ! (λ l₅. alloc0 ! $ params1 ! $ pass1 ! (init ! 8 refl (tt, tt)) $ pass1 ! (init ! 6 refl (shr-slice-lawful 𝓤 H A W (named 1) κ′ u8 .typed s (v ∷ []) p .0)) $ pass0 ! $
+        qed W ((‵ (flft κ q) ⊛ ‵ (flft κ′ q′) ⊛ ‵ ftrue) ∷ ‵ (owns (MutRef (named 0) κ R ∷ ShrSlice (named 1) κ′ u8 ∷ []) a vals) ∷ []) ∵
+        enter ! C Λ code.function (vptr b o ∷ v ∷ []) _ $
+        alloc1 ! (λ l₀. alloc1 ! (λ l₁. alloc1 ! (λ l₂. alloc1 !
+        (λ l₃. alloc1 ! (λ l₄. alloc1 ! (λ l₅. alloc0 ! $ params1 ! $ pass1 ! (init ! 8 refl (tt, tt)) $
+        pass1 ! (init ! 6 refl (shr-slice-lawful 𝓤 H A W (named 1) κ′ u8 .typed s (v ∷ []) p .0)) $ pass0 ! $
         -- the borrow is opened
         move ! (13 ∷ []) $ fsplit ! $ fsplit3 ! $ drop ! $ move ! (15 ∷ []) $ split ! $ move ! (2 ∷ 3 ∷ 0 ∷ []) $
-        opens ! tt R {h = h} b o (λ vs. spelt ! R (Is R) (shows 𝓤 H A R) (LL.vals T.the-type T′.the-laws) (LL.tells T.the-type T′.the-laws) fullShare h vs b o $
+        opens ! tt R {h = h} b o (λ vs. spelt ! R (Is R) (shows 𝓤 H A R) (LL.vals T.the-type T′.the-laws)
+        (LL.tells T.the-type T′.the-laws) fullShare h vs b o $
         move ! (1 ∷ []) $ peeks ! R (Is R) (shows 𝓤 H A R) h (mach ∷ []) (λ g. drop ! $
-        -- [the record's cell; the open borrow; obs; auth; the second token; what bytes owns; _5; …; _4; …; _3; …; _2; …; _1; …; room for _0; …]
-        assigns ! (of-opd ! (load ! (from ! (hop ! (look ! 14 refl) (stop !))) (look-raw ! 0 refl))) (from ! (stop !)) (init ! 6 refl (LL.lawful T.the-type T′.the-laws 𝓤 H A W .typed h _ g .0)) $
+        -- [the record's cell; the open borrow; obs; auth; the second token; what bytes owns; _5; …; _4; …; _3; …; _2; …; _1; …; room for
+        -- _0; …]
+        assigns ! (of-opd ! (load ! (from ! (hop ! (look ! 14 refl) (stop !))) (look-raw ! 0 refl))) (from ! (stop !))
+        (init ! 6 refl (LL.lawful T.the-type T′.the-laws 𝓤 H A W .typed h _ g .0)) $
         move ! (4 ∷ 5 ∷ []) $ use2 W (raw (Parse 𝓤 H A at-mem run .pre to) ⊛ ‵ Own) (gives g) $ split ! $
-        calls-at ! fm (Parse 𝓤 H A at-mem run) known to (and-then ! (load ! (from ! (stop !)) (look ! 6 refl)) (and-then ! (load ! (from ! (stop !)) (look ! 12 refl)) (no-more !))) (λ u.
-        use1 W (later (some (λ (r : Parsed). ((‵ (flft κ′ q′) ⊛ ‵ ftrue) ⊛ ‵ (P.the-row .own r (u ∷ []))) ⊛ raw (ensured 𝓤 H A parse.ended (parse.clauses 𝓤 H A at-mem run) (κ′, tt) (h, (s, tt)) tt r)))) (id⊢ 𝓤 _) $ await ! tt $ pick ! (λ r.
+        calls-at ! fm (Parse 𝓤 H A at-mem run) known to (and-then ! (load ! (from ! (stop !)) (look ! 6 refl))
+        (and-then ! (load ! (from ! (stop !)) (look ! 12 refl)) (no-more !))) (λ u.
+        use1 W (later (some (λ (r : Parsed). ((‵ (flft κ′ q′) ⊛ ‵ ftrue) ⊛ ‵ (P.the-row .own r (u ∷ []))) ⊛ raw
+        (ensured 𝓤 H A parse.ended (parse.clauses 𝓤 H A at-mem run) (κ′, tt) (h, (s, tt)) tt r)))) (id⊢ 𝓤 _) $ await ! tt $ pick ! (λ r.
         split ! $ move ! (1 ∷ []) $ use1 W (raw (fact 𝓤 (r ≡ found))) (said r) $ heard ! (r ≡ found) (λ e. split ! $ move ! (1 ∷ []) $
         peeks ! P.the-row (Is P.the-row) (shows 𝓤 H A P.the-row) r (u ∷ []) (λ is. drop ! $
-        -- [the second token; what bytes owns; the record's cell; the open borrow; obs; auth; _5; …; _4; …; room for _3; …; _2; …; _1; …; room for _0; …]
+        -- [the second token; what bytes owns; the record's cell; the open borrow; obs; auth; _5; …; _4; …; room for _3; …; _2; …; _1; …;
+        -- room for _0; …]
         land ! (from ! (stop !)) (init ! 10 refl (LL.lawful P.the-type P′.the-laws 𝓤 H A W .typed r _ is .0)) $
         rewrite ! 10 (λ (w : Val). ‵ (fat fullShare P′.mir l₃ 0 w)) (value-is r u is) refl $
         -- the new record is stored, and the borrow is closed
-        assigns ! (of-opd ! (load ! (from ! (fld ! field-2 (stop !))) (look-in ! 10 (sub ! 2 field-2 (whole !))))) (from ! (hop ! (look ! 14 refl) (stop !))) (store-raw ! 2 refl (LL.lawful T.the-type T′.the-laws 𝓤 H A W .typed (r .parser) _ (parser-is r u is) .0)) $
-        owned ! R (Is R) (LL.makes T.the-type T′.the-plain 𝓤 H A) (r .parser) _ (parser-is r u is) $ move ! (3 ∷ 0 ∷ 4 ∷ 5 ∷ 6 ∷ []) $ closes ! tt R (r .parser) (mval (r .parser) ∷ []) b o $
+        assigns ! (of-opd ! (load ! (from ! (fld ! field-2 (stop !))) (look-in ! 10 (sub ! 2 field-2 (whole !)))))
+        (from ! (hop ! (look ! 14 refl) (stop !))) (store-raw ! 2 refl
+        (LL.lawful T.the-type T′.the-laws 𝓤 H A W .typed (r .parser) _ (parser-is r u is) .0)) $
+        owned ! R (Is R) (LL.makes T.the-type T′.the-plain 𝓤 H A) (r .parser) _ (parser-is r u is) $ move ! (3 ∷ 0 ∷ 4 ∷ 5 ∷ 6 ∷ []) $
+        closes ! tt R (r .parser) (mval (r .parser) ∷ []) b o $
         -- [obs; the borrow; the token; the second token; what bytes owns; _5; …; _4; …; _3; …; _2; …; _1; …; _0; …]
-        move ! (3 ∷ 4 ∷ []) $ use2 W (raw (Part 𝓤 H A at-mem run .pre (to′ (r .outcome))) ⊛ ‵ Own) (gives′ (r .outcome) (outcome-is r u is)) $ split ! $
-        calls-at ! fm (Part 𝓤 H A at-mem run) known′ (to′ (r .outcome)) (and-then ! (load ! (from ! (stop !)) (look ! 11 refl)) (and-then ! (load ! (from ! (fld ! field-0 (stop !))) (look-in ! 9 (sub ! 0 field-0 (whole !)))) (no-more !))) (λ w.
-        use1 W (later (some (λ (t : RefT (List ℕ)). ((‵ (flft κ′ q′) ⊛ ‵ ftrue) ⊛ ‵ (ShrSlice (named 0) κ′ u8 .own t (w ∷ []))) ⊛ raw (ensured 𝓤 H A part.ended (part.clauses 𝓤 H A at-mem run) (κ′, tt) (s, (r .outcome, tt)) tt t)))) (id⊢ 𝓤 _) $ await ! tt $ pick ! (λ t.
-        split ! $ move ! (1 ∷ []) $ use1 W (raw (fact 𝓤 (Refers (r .outcome) t))) (said′ (r .outcome) t) $ heard ! (Refers (r .outcome) t) (λ e′. split ! $ move ! (1 ∷ []) $
+        move ! (3 ∷ 4 ∷ []) $ use2 W (raw (Part 𝓤 H A at-mem run .pre (to′ (r .outcome))) ⊛ ‵ Own)
+        (gives′ (r .outcome) (outcome-is r u is)) $ split ! $
+        calls-at ! fm (Part 𝓤 H A at-mem run) known′ (to′ (r .outcome))
+        (and-then ! (load ! (from ! (stop !)) (look ! 11 refl))
+        (and-then ! (load ! (from ! (fld ! field-0 (stop !))) (look-in ! 9 (sub ! 0 field-0 (whole !)))) (no-more !))) (λ w.
+        use1 W (later (some (λ (t : RefT (List ℕ)). ((‵ (flft κ′ q′) ⊛ ‵ ftrue) ⊛ ‵ (ShrSlice (named 0) κ′ u8 .own t (w ∷ []))) ⊛ raw
+        (ensured 𝓤 H A part.ended (part.clauses 𝓤 H A at-mem run) (κ′, tt) (s, (r .outcome, tt)) tt t)))) (id⊢ 𝓤 _) $ await ! tt $
+        pick ! (λ t.
+        split ! $ move ! (1 ∷ []) $ use1 W (raw (fact 𝓤 (Refers (r .outcome) t))) (said′ (r .outcome) t) $
+        heard ! (Refers (r .outcome) t) (λ e′. split ! $ move ! (1 ∷ []) $
         -- [what the part owns; the second token; what bytes owns; obs; the borrow; the token; _5; …; _4; …; _3; …; _2; …; _1; …; _0; …]
         peeks ! (ShrSlice (named 0) κ′ u8) (Is (ShrSlice (named 0) κ′ u8)) (shows 𝓤 H A (ShrSlice (named 0) κ′ u8)) t (w ∷ []) (λ is′.
-        rewrite ! 0 (λ (x : Val). ‵ (ShrSlice (named 0) κ′ u8 .own t (x ∷ []))) (ap only (shr-slice-tells (named 0) κ′ u8 t (w ∷ []) is′)) refl $
+        rewrite ! 0 (λ (x : Val). ‵ (ShrSlice (named 0) κ′ u8 .own t (x ∷ [])))
+        (ap only (shr-slice-tells (named 0) κ′ u8 t (w ∷ []) is′)) refl $
         land ! (from ! (stop !)) (init ! 8 refl (shr-slice-lawful 𝓤 H A W erased κ′ u8 .typed t (w ∷ []) is′ .0)) $
-        rewrite ! 8 (λ (x : Val). ‵ (fat fullShare (tyStruct (38 ∷ 91 ∷ 93 ∷ []) (tcons (tyRef erased imm (tyInt w8)) (tcons (tyInt w64) tnil))) l₄ 0 x)) (ap only (shr-slice-tells (named 0) κ′ u8 t (w ∷ []) is′)) refl $
-        assigns ! (agg ! (and-then ! (load ! (from ! (fld ! field-0 (stop !))) (look-in ! 10 (sub ! 0 field-0 (whole !)))) (and-then ! (load ! (from ! (fld ! field-1 (stop !))) (look-in ! 10 (sub ! 1 field-1 (whole !)))) (and-then ! (load ! (from ! (stop !)) (look ! 8 refl)) (no-more !))))) (from ! (stop !)) (init ! 16 refl (LL.lawful (F.the-type α) (F′.the-laws α) 𝓤 H A W .typed (frm r t) _ (frame-is r u is t (part-is t w is′)) .0)) $
-        returns ! (look ! 16 refl) $ forget ! 6 refl $ forget ! 8 refl $ forget ! 10 refl $ forget ! 12 refl $ forget ! 14 refl $ forget ! 16 refl $
-        move ! (16 ∷ 17 ∷ []) $ free1 ! $ move ! (14 ∷ 15 ∷ []) $ free1 ! $ move ! (12 ∷ 13 ∷ []) $ free1 ! $ move ! (10 ∷ 11 ∷ []) $ free1 ! $ move ! (8 ∷ 9 ∷ []) $ free1 ! $ move ! (6 ∷ 7 ∷ []) $ free1 ! $ free0 ! $
+        rewrite ! 8 (λ (x : Val). ‵ (fat fullShare (tyStruct (38 ∷ 91 ∷ 93 ∷ [])
+        (tcons (tyRef erased imm (tyInt w8)) (tcons (tyInt w64) tnil))) l₄ 0 x))
+        (ap only (shr-slice-tells (named 0) κ′ u8 t (w ∷ []) is′)) refl $
+        assigns ! (agg ! (and-then ! (load ! (from ! (fld ! field-0 (stop !))) (look-in ! 10 (sub ! 0 field-0 (whole !))))
+        (and-then ! (load ! (from ! (fld ! field-1 (stop !))) (look-in ! 10 (sub ! 1 field-1 (whole !))))
+        (and-then ! (load ! (from ! (stop !)) (look ! 8 refl)) (no-more !))))) (from ! (stop !))
+        (init ! 16 refl (LL.lawful (F.the-type α) (F′.the-laws α) 𝓤 H A W .typed (frm r t) _
+        (frame-is r u is t (part-is t w is′)) .0)) $
+        returns ! (look ! 16 refl) $ forget ! 6 refl $ forget ! 8 refl $ forget ! 10 refl $ forget ! 12 refl $ forget ! 14 refl $
+        forget ! 16 refl $
+        move ! (16 ∷ 17 ∷ []) $ free1 ! $ move ! (14 ∷ 15 ∷ []) $ free1 ! $ move ! (12 ∷ 13 ∷ []) $ free1 ! $ move ! (10 ∷ 11 ∷ []) $
+        free1 ! $ move ! (8 ∷ 9 ∷ []) $ free1 ! $ move ! (6 ∷ 7 ∷ []) $ free1 ! $ free0 ! $
         by ! (exits r u is t e e′)))))))))))))))))
 
 module _ {M : Type 1} (𝓤 : URA M) (H : Heap 𝓤) (A : Atoms 𝓤) (W : Given 𝓤 H A) (mem : Memory → SProp 𝓤) (run : Routine → Fun 𝓤) where
-  frame-walks : (C : Calls 𝓤 H) (Λ : Loops 𝓤 H) → FmC 𝓤 H (W .laws) C → Triple 𝓤 (C #parse) (Parse 𝓤 H A mem run) → Triple 𝓤 (C #part) (Part 𝓤 H A mem run) → Walks 𝓤 H A frame′.ended stayed (WpFn 𝓤 H C Λ code.function) (frame′.clauses 𝓤 H A mem run)
-  frame-walks C Λ fm known known′ = walked 𝓤 H A frame′.ended stayed (frame′.clauses 𝓤 H A mem run) (WpFn 𝓤 H C Λ code.function) (λ κs. (ptr-vals, (slice-vals, tt))) (λ κs. (mut-tells (named 0) (κs .0) R, (shr-slice-tells (named 1) (κs .1 .0) u8, tt)))
-      (λ κs qs bounds a g are. via 𝓤 _ (fst∗ 𝓤 _ (emp 𝓤)) (walk 𝓤 H A W mem run (κs .0) (κs .1 .0) (qs .0) (qs .1 .0) (a .0 .ptr .0) (a .0 .ptr .1) (a .0 .name) (a .0 .now) (a .1 .0) C Λ fm known known′ (are .1 .0)))
+  frame-walks : (C : Calls 𝓤 H) (Λ : Loops 𝓤 H) → FmC 𝓤 H (W .laws) C → Triple 𝓤 (C #parse) (Parse 𝓤 H A mem run)
+      → Triple 𝓤 (C #part) (Part 𝓤 H A mem run) → Walks 𝓤 H A frame′.ended stayed (WpFn 𝓤 H C Λ code.function)
+      (frame′.clauses 𝓤 H A mem run)
+  frame-walks C Λ fm known known′ = walked 𝓤 H A frame′.ended stayed (frame′.clauses 𝓤 H A mem run) (WpFn 𝓤 H C Λ code.function)
+      (λ κs. (ptr-vals, (slice-vals, tt))) (λ κs. (mut-tells (named 0) (κs .0) R, (shr-slice-tells (named 1) (κs .1 .0) u8, tt)))
+      (λ κs qs bounds a g are. via 𝓤 _ (fst∗ 𝓤 _ (emp 𝓤)) (walk 𝓤 H A W mem run (κs .0) (κs .1 .0) (qs .0) (qs .1 .0) (a .0 .ptr .0)
+      (a .0 .ptr .1) (a .0 .name) (a .0 .now) (a .1 .0) C Λ fm known known′ (are .1 .0)))
 
-frame-meets : {M : Type 1} (𝓤 : URA M) (H : Heap 𝓤) (A : Atoms 𝓤) → Given 𝓤 H A → (mem : Memory → SProp 𝓤) (run : Routine → Fun 𝓤) (𝓣 : Tables 𝓤 H) → Triple 𝓤 (𝓣 .C #parse) (Parse 𝓤 H A mem run) → Triple 𝓤 (𝓣 .C #part) (Part 𝓤 H A mem run)
+frame-meets : {M : Type 1} (𝓤 : URA M) (H : Heap 𝓤) (A : Atoms 𝓤) → Given 𝓤 H A
+    → (mem : Memory → SProp 𝓤) (run : Routine → Fun 𝓤) (𝓣 : Tables 𝓤 H) → Triple 𝓤 (𝓣 .C #parse) (Parse 𝓤 H A mem run)
+    → Triple 𝓤 (𝓣 .C #part) (Part 𝓤 H A mem run)
     → Meets 𝓤 H A frame′.signature (WpFn 𝓤 H (𝓣 .C) (𝓣 .Λ) code.function) (frame′.spec 𝓤 H A mem run)
 frame-meets 𝓤 H A W mem run 𝓣 known known′ =
-    walk-meets 𝓤 H A frame′.ended stayed W (goes-ref 𝓤 H A W 2 0 tt (plain (λ _. R)), (goes-none-slice 𝓤 H A W 2 (1 ∷ []) tt (plain (λ _. u8)) yes, tt)) (frame′.clauses 𝓤 H A mem run)
-    (WpFn 𝓤 H (𝓣 .C) (𝓣 .Λ) code.function) (WpFn-mono 𝓤 H (W .laws) 𝓣 code.function) (frame-walks 𝓤 H A W mem run (𝓣 .C) (𝓣 .Λ) (fmOf 𝓤 H (W .laws) 𝓣) known known′)
+    walk-meets 𝓤 H A frame′.ended stayed W (
+      goes-ref 𝓤 H A W 2 0 tt (plain (λ _. R)),
+      (goes-none-slice 𝓤 H A W 2 (1 ∷ []) tt (plain (λ _. u8)) yes, tt),
+    ) (frame′.clauses 𝓤 H A mem run)
+    (WpFn 𝓤 H (𝓣 .C) (𝓣 .Λ) code.function) (WpFn-mono 𝓤 H (W .laws) 𝓣 code.function)
+    (frame-walks 𝓤 H A W mem run (𝓣 .C) (𝓣 .Λ) (fmOf 𝓤 H (W .laws) 𝓣) known known′)
 
 pub parse-frame-spec : {M : Type 1} → stated.statement M
 unfolding code.routine tablesOf
@@ -244,5 +307,7 @@ parse-frame-spec 𝓤 H 𝓜 𝓖 𝓡 =
     entered 𝓤 H (tripleOf 𝓤 H (𝓖 .A) frame′.signature (frame′.spec 𝓤 H (𝓖 .A) (𝓜 .mem) (𝓡 .run)))
     (tables 𝓤 H 𝓜 𝓡 code.env .C) (tables 𝓤 H 𝓜 𝓡 code.env .Λ) #parse-frame code.function (code.unfolded 𝓤 H 𝓜 𝓡)
     (frame-meets 𝓤 H (𝓖 .A) (givenOf 𝓤 H 𝓜 𝓖) (𝓜 .mem) (𝓡 .run) (tablesOf 𝓤 H 𝓜 (tables 𝓤 H 𝓜 𝓡 code.env))
-    (cited 𝓤 H (Parse 𝓤 H (𝓖 .A) (𝓜 .mem) (𝓡 .run)) 𝓜 𝓡 code.env #parse parse-def.routine code.calls-vp8-parser·parse (parse-thm.met 𝓤 H 𝓜 𝓖 𝓡))
-    (cited 𝓤 H (Part 𝓤 H (𝓖 .A) (𝓜 .mem) (𝓡 .run)) 𝓜 𝓡 code.env #part part-def.routine code.calls-vp8-frame·part-of (part-thm.met 𝓤 H 𝓜 𝓖 𝓡)))
+    (cited 𝓤 H (Parse 𝓤 H (𝓖 .A) (𝓜 .mem) (𝓡 .run)) 𝓜 𝓡 code.env #parse parse-def.routine code.calls-vp8-parser·parse
+    (parse-thm.met 𝓤 H 𝓜 𝓖 𝓡))
+    (cited 𝓤 H (Part 𝓤 H (𝓖 .A) (𝓜 .mem) (𝓡 .run)) 𝓜 𝓡 code.env #part part-def.routine code.calls-vp8-frame·part-of
+    (part-thm.met 𝓤 H 𝓜 𝓖 𝓡)))

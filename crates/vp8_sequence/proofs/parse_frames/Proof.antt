@@ -1,8 +1,9 @@
--- The loop takes one frame a turn: `Folds`. Assumes nothing.
+-- The loop takes one frame a turn: `Folds`. That the parser is sized is known by its type: `typed-sized`.
 use Prim.Native.Nat.{_-_}
 use native.Mathlib.Omega.{arith}
 use lib.ListN.{length}
 use borrow.Author.Needs.{needs}
+use Rattle.vp8_records.proofs.Typed.{typed-sized}
 use Rattle.vp8_sequence.proofs.Folds.{Turn, begin, turn, ended, one-few}
 use Rattle.vp8_sequence.proofs.parse_frames.Statement.{statement}
 use Rattle.vp8_sequence.proofs.parse_frames.Tie as tie
@@ -41,7 +42,9 @@ count-one-requires : tie.Need-count-one-requires Inv-loop μ-loop
 count-one-requires c κs = search needs
 
 add-count : tie.Need-add-count Inv-loop μ-loop
-add-count c = record { fits = omega (arith, c .before .before .before .before .before .before .loop .inv .few, c .count-one .ensures, one-few (c .before .parse .result .outcome)) }
+add-count c =
+    let at-loop = c .before .before .before .before .before .before in
+    record { fits = omega (arith, at-loop .loop .inv .few, c .count-one .ensures, one-few (c .before .parse .result .outcome)) }
 
 add-i : tie.Need-add-i Inv-loop μ-loop
 add-i c = search needs
@@ -50,10 +53,17 @@ loop-less : tie.Need-loop-less Inv-loop μ-loop
 loop-less c = search needs
 
 loop-again : tie.Need-loop-again Inv-loop μ-loop
-loop-again c = turn (c .before .before .before .before .before .before .before .loop .inv) (c .before .before .before .before .before .before .loop-test .taken) (c .before .before .before .before .end-of .ensures .0) (c .before .before .parse .ensures) (c .before .count-one .ensures)
+loop-again c =
+    let at-parse = c .before .before in
+    let at-end = at-parse .before .before in
+    let at-test = at-end .before .before in
+    turn (at-test .before .loop .inv) (at-test .loop-test .taken) (at-end .end-of .ensures .0) (at-parse .parse .ensures)
+    (c .before .count-one .ensures)
 
 returns : tie.Need-returns Inv-loop μ-loop
-returns c = ended (c .before .loop .inv) (c .loop-test .left)
+returns c =
+    let at-entry = c .before .before .before .before in
+    ended (c .before .loop .inv) (c .loop-test .left) (typed-sized (at-entry .args .parser) _ (at-entry .good .0))
 
 pub parse-frames-spec : {M : Type 1} → statement M
 parse-frames-spec =
