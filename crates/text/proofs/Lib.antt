@@ -1,3 +1,4 @@
 -- What the proofs of several functions use, here and above.
 pub mod Puts
 pub mod Spelling
+pub mod Templates

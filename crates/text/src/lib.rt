@@ -1,12 +1,14 @@
-// Text in a buffer that the caller lends: bytes, two hexadecimal digits a byte, decimal numbers. No input, no output.
+// Text in a buffer that the caller lends: bytes, two hexadecimal digits a byte, decimal numbers, templates. No input, no output.
 // A text is the first `at` bytes of `out`. Each writer puts its bytes there, as far as the buffer goes, and answers the new count.
 // No public function has a premise.
 ghost use mathlib.Core.Path.{_≡_};
-ghost use Prim.Native.Nat.{_<_, _+_};
-ghost use lib.ListN.{take as List·take};
+ghost use mathlib.Core.List.{List, _∷_};
+ghost use Prim.Native.Nat.{ℕ, _<_, _+_};
+ghost use lib.ListN.{take as List·take, drop};
 ghost use lib.IntN.{natAbs};
 ghost use Rattle.text.specs.Text.{text, put, puts};
 ghost use Rattle.text.specs.Digits.{glyph as Digits·glyph, hexOf, decimalOf, signedOf};
+ghost use Rattle.text.specs.Template.{filled};
 
 // One byte.
 pub fn byte(out: &mut [u8], at: usize, b: u8) -> usize
@@ -70,6 +72,54 @@ pub fn decimal(out: &mut [u8], at: usize, n: u64) -> usize
     }
     let to = decimal(out, at, n / 10);
     byte(out, to, digit(n % 10))
+}
+
+fn wide(n: u32) -> u64
+    ensures { λ r. ⌜ r ≡ n ⌝ }
+{
+    n as u64
+}
+
+// The text's new end, and which number comes next.
+struct Filling {
+    at: usize,
+    next: usize,
+}
+
+// What one byte of a template puts: a bar the next number, if there is one; any other byte itself.
+fn fill_byte(out: &mut [u8], at: usize, b: u8, numbers: &[u32], next: usize) -> Filling
+    ensures { λ r. ⌜ ((cs : List ℕ) → puts (text (now (out .exit)) (r .at)) (filled cs (drop (r .next) (now (numbers .entry))))
+        ≡ puts (text (now (out .entry)) at) (filled (b ∷ cs) (drop next (now (numbers .entry))))) ⌝ }
+{
+    if b == b'|' {
+        if next < numbers.len() {
+            let to = decimal(out, at, wide(numbers[next]));
+            return Filling {
+                at: to,
+                next: next + 1,
+            };
+        }
+        return Filling { at, next };
+    }
+    let to = byte(out, at, b);
+    Filling { at: to, next }
+}
+
+// A template: its words, and the numbers in decimal where its bars stand.
+pub fn fill(out: &mut [u8], at: usize, template: &[u8], numbers: &[u32]) -> usize
+    ensures { λ r. ⌜ text (now (out .exit)) r
+        ≡ puts (text (now (out .entry)) at) (filled (now (template .entry)) (now (numbers .entry))) ⌝ }
+{
+    let mut to = at;
+    let mut next = 0;
+    let mut i = 0;
+    while i < template.len() {
+        let filling = fill_byte(out, to, template[i], numbers, next);
+        to = filling.at;
+        next = filling.next;
+        i += 1;
+    }
+    to
 }
 
 fn size(z: i32) -> u64

@@ -24,7 +24,7 @@ fn ended(parser: Parser) -> Run {
 // A frame and its line.
 fn frame(parser: Parser, bytes: &[u8], out: &mut [u8]) -> Run {
     let parsed = vp8_parser::parse(parser, bytes);
-    let end = vp8_show::dump::line(parsed, out);
+    let end = vp8_show::dump::line(out, 0, parsed);
     let after = text::byte(out, end, b'\n');
     let more = lines::show(out, after);
     let parser = parsed.parser;

@@ -1,33 +1,26 @@
--- The numbers of a header and of an outcome, in the order of a dump line. Assumes nothing.
+-- The numbers of a header and of an outcome, in the order of a dump line.
 use Prim.Native.Nat.{ℕ, zero, suc}
 use mathlib.Core.List.{List, [], _∷_}
+use lib.ListN.{getD}
 use mir.Val.{ofZ}
 use mir.Syntax.{w8}
 use Rattle.vp8_records.specs.declared.Header.{Header}
 use Rattle.vp8_records.specs.declared.QuantIndices.{QuantIndices}
 use Rattle.vp8_records.specs.declared.Outcome.{Outcome}
-use Rattle.vp8_records.specs.declared.Outcome.the-variants.{Accepted, ChunkTooShort, InvalidStartCode, InvalidPartitionSize, EmptyArea, EndOfHeader, FrameTooLong}
+use Rattle.vp8_records.specs.Outcome.{numberOf, carriedBy}
 use Rattle.vp8_flat.specs.declared.header.Carried.{Carried}
 use Rattle.vp8_flat.specs.Bytes.{bitOf}
 
-abbrev carry : ℕ → ℕ → ℕ → Carried
-carry n x y = record { number = n; a = x; b = y }
-
--- a refusal's number and what it carries, as document 01 has them
+-- a refusal's number and the two numbers it carries at most, 0 where there is none
 abbrev pub carriedOf : Outcome → Carried
-carriedOf Accepted = carry 0 0 0
-carriedOf ChunkTooShort = carry 1 0 0
-carriedOf (InvalidStartCode code) = carry 2 code 0
-carriedOf (InvalidPartitionSize end length) = carry 3 end length
-carriedOf EmptyArea = carry 4 0 0
-carriedOf EndOfHeader = carry 5 0 0
-carriedOf (FrameTooLong length) = carry 6 length 0
+carriedOf o = record { number = numberOf o; a = getD (carriedBy o) 0 0; b = getD (carriedBy o) 1 0 }
 
-abbrev pub partitionsOf : ℕ → ℕ
-partitionsOf zero = 1
-partitionsOf (suc zero) = 2
-partitionsOf (suc (suc zero)) = 4
-partitionsOf (suc (suc (suc n))) = 8
+-- how many partitions hold coefficients (RFC 6386 section 9.5); a log2 above 3, which no frame codes, counts as 3
+abbrev pub partitionCount : ℕ → ℕ
+partitionCount zero = 1
+partitionCount (suc zero) = 2
+partitionCount (suc (suc zero)) = 4
+partitionCount (suc (suc (suc n))) = 8
 
 abbrev pub shapeOf : Header → List ℕ
 shapeOf h =
@@ -45,7 +38,7 @@ shapeOf h =
     ∷ bitOf (h .«filter_type»)
     ∷ h .«loop_filter_level»
     ∷ h .«sharpness_level»
-    ∷ partitionsOf (h .«log2_nbr_of_dct_partitions»)
+    ∷ partitionCount (h .«log2_nbr_of_dct_partitions»)
     ∷ h .«log2_nbr_of_dct_partitions»
     ∷ []
 

@@ -5,7 +5,8 @@ use vp8_records::Header;
 use vp8_records::Outcome;
 use vp8_records::QuantIndices;
 ghost use mathlib.Core.Path.{_≡_};
-ghost use Rattle.vp8_flat.specs.Numbers.{partitionsOf, shapeOf, quantOf, flagsOf, tailOf, carriedOf};
+ghost use Prim.Native.Nat.{_≤_};
+ghost use Rattle.vp8_flat.specs.Numbers.{partitionCount, shapeOf, quantOf, flagsOf, tailOf, carriedOf};
 
 // What a refusal carries: 2 its code, 3 the end and the length, 6 the length; else zeros. The number is 0 where the frame is accepted.
 pub struct Carried {
@@ -57,8 +58,8 @@ pub fn refusal(outcome: Outcome) -> Carried
 }
 
 // How many partitions hold coefficients.
-fn partitions(log2: u8) -> u32
-    ensures { λ r. ⌜ r ≡ partitionsOf log2 ⌝ }
+pub fn partitions(log2: u8) -> u32
+    ensures { λ r. ⌜ (r ≡ partitionCount log2) × (1 ≤ r) × (r ≤ 8) ⌝ }
 {
     match log2 {
         0 => 1,

@@ -1,4 +1,4 @@
-// Document 01's printing program: one frame from standard input, at most 65,536 bytes, parsed by a fresh parser, and its answer in words.
+// The printing program: one frame from standard input, at most 65,536 bytes, parsed by a fresh parser, and its answer in words.
 use vp8_records::Parser;
 
 fn main() {
@@ -10,6 +10,6 @@ fn main() {
     }
     let parsed = vp8_parser::parse(Parser::new(), &frame[..n]);
     let mut out = [0u8; 1024];
-    let end = vp8_show::print::answer(parsed, &mut out);
+    let end = vp8_show::print::answer(&mut out, 0, parsed);
     lines::show(&out, end);
 }

@@ -1,72 +1,74 @@
-// What the programs over whole frames share: frames from standard input, and an answer in words. `print` is document 01's printing
-// program, `dump` a line with every number of the answer and of the parser after it.
+// What the programs over whole frames share: frames from standard input, and an answer in words. `print` has the lines of the printing
+// program, `dump` a line with every number of the answer and of the parser after it. Both put their text at any place of a lent buffer.
 pub mod dump;
 pub mod input;
 pub mod print;
 
 use vp8_flat::header::Carried;
+use vp8_records::Outcome;
+ghost use mathlib.Core.Path.{_≡_};
+ghost use mathlib.Core.List.{[], _∷_, _++_};
+ghost use Prim.Native.Nat.{_<_};
+ghost use Rattle.text.specs.Text.{text, puts};
+ghost use Rattle.text.specs.Digits.{decimalOf};
+ghost use Rattle.vp8_show.specs.Refusal.{carriedText, refusalText};
 
-fn wide(n: u32) -> u64 {
+fn wide(n: u32) -> u64
+    ensures { λ r. ⌜ (r ≡ n) × (r < 4294967296) ⌝ }
+{
     n as u64
 }
 
-// What a label wrote: the text's new end, and where the next label begins.
-struct Labelled {
+fn wide8(n: u8) -> u64
+    ensures { λ r. ⌜ (r ≡ n) × (r < 256) ⌝ }
+{
+    n as u64
+}
+
+// A word, then a number.
+fn named(out: &mut [u8], at: usize, word: &[u8], n: u64) -> usize
+    ensures { λ r. ⌜ text (now (out .exit)) r ≡ puts (text (now (out .entry)) at) (now (word .entry) ++ decimalOf n) ⌝ }
+{
+    let to = text::bytes(out, at, word);
+    text::decimal(out, to, n)
+}
+
+// What 2 and 3 carry, each number after its word.
+fn carried(
+    out: &mut [u8],
     at: usize,
-    from: usize,
-}
-
-// The label that begins at `from`; a bar ends each.
-fn label(out: &mut [u8], at: usize, labels: &[u8], from: usize) -> Labelled {
-    let mut to = at;
-    let mut i = from;
-    while i < labels.len() {
-        if labels[i] == b'|' {
-            return Labelled {
-                at: to,
-                from: i + 1,
-            };
-        }
-        to = text::byte(out, to, labels[i]);
-        i += 1;
+    refusal: Carried,
+    code: &[u8],
+    end: &[u8],
+    length: &[u8],
+) -> usize
+    ensures { λ r. ⌜ text (now (out .exit)) r ≡ puts (text (now (out .entry)) at)
+        (carriedText (now (code .entry)) (now (end .entry)) (now (length .entry)) (refusal .number) (refusal .a ∷ refusal .b ∷ [])) ⌝ }
+{
+    if refusal.number == 2 {
+        return named(out, at, code, refusal.a);
     }
-    Labelled { at: to, from: i }
-}
-
-// Each number after its label.
-fn numbers(out: &mut [u8], at: usize, labels: &[u8], values: &[u32]) -> usize {
-    let mut to = at;
-    let mut from = 0;
-    let mut i = 0;
-    while i < values.len() {
-        let told = label(out, to, labels, from);
-        from = told.from;
-        to = text::decimal(out, told.at, wide(values[i]));
-        i += 1;
+    if refusal.number == 3 {
+        let to = named(out, at, end, refusal.a);
+        return named(out, to, length, refusal.b);
     }
-    to
+    at
 }
 
-// A refusal, its number after `word`; what 2 and 3 carry after words of their own.
+// A refusal: its number after `word`, and what it carries.
 fn refused(
     out: &mut [u8],
-    refusal: Carried,
+    at: usize,
+    outcome: Outcome,
     word: &[u8],
     code: &[u8],
     end: &[u8],
     length: &[u8],
-) -> usize {
-    let to = text::bytes(out, 0, word);
-    let to = text::decimal(out, to, refusal.number as u64);
-    if refusal.number == 2 {
-        let to = text::bytes(out, to, code);
-        return text::decimal(out, to, refusal.a);
-    }
-    if refusal.number == 3 {
-        let to = text::bytes(out, to, end);
-        let to = text::decimal(out, to, refusal.a);
-        let to = text::bytes(out, to, length);
-        return text::decimal(out, to, refusal.b);
-    }
-    to
+) -> usize
+    ensures { λ r. ⌜ text (now (out .exit)) r ≡ puts (text (now (out .entry)) at)
+        (refusalText (now (word .entry)) (now (code .entry)) (now (end .entry)) (now (length .entry)) outcome) ⌝ }
+{
+    let refusal = vp8_flat::header::refusal(outcome);
+    let to = named(out, at, word, wide(refusal.number));
+    carried(out, to, refusal, code, end, length)
 }

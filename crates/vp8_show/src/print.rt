@@ -1,80 +1,105 @@
-// The lines of document 01's printing program: what an accepted frame is, and where each of its partitions stands; or the refusal.
-use crate::numbers;
+// The lines of the printing program: what an accepted frame is, and where each of its partitions stands; or the refusal.
+use crate::named;
 use crate::refused;
 use crate::wide;
-use std::num::wrapping_add_u64;
+use crate::wide8;
 use vp8_records::Header;
 use vp8_records::Parsed;
+ghost use mathlib.Core.Path.{_≡_};
+ghost use Prim.Native.Nat.{_-_, _*_, _≤_};
+ghost use lib.ListN.{take};
+ghost use Rattle.text.specs.Text.{text, puts};
+ghost use Rattle.vp8_flat.specs.Numbers.{partitionCount};
+ghost use Rattle.vp8_show.specs.Printed.{frameLine, partitionLine, partitionLines, firstStart, acceptedText, printed};
 
-// One line of a partition.
-fn part(out: &mut [u8], at: usize, index: u64, start: u64, length: u64) -> usize {
-    let to = text::bytes(out, at, b"part ");
-    let to = text::decimal(out, to, index);
-    let to = text::bytes(out, to, b" start ");
-    let to = text::decimal(out, to, start);
-    let to = text::bytes(out, to, b" length ");
-    let to = text::decimal(out, to, length);
+// The first line: what the frame is.
+fn frame_line(out: &mut [u8], at: usize, h: Header) -> usize
+    ensures { λ r. ⌜ text (now (out .exit)) r ≡ puts (text (now (out .entry)) at) (frameLine h) ⌝ }
+{
+    let s = vp8_flat::header::shape(h);
+    let values = [s[0], s[1], s[2], s[3], s[4], s[5], s[6], s[14], h.bools];
+    text::fill(
+        out,
+        at,
+        b"accepted key | version | show | chunk | first | size |x| parts | bools |\n",
+        &values,
+    )
+}
+
+// The line of a partition.
+fn partition_line(out: &mut [u8], at: usize, index: u64, start: u64, length: u64) -> usize
+    ensures { λ r. ⌜ text (now (out .exit)) r ≡ puts (text (now (out .entry)) at) (partitionLine index start length) ⌝ }
+{
+    let to = named(out, at, b"part ", index);
+    let to = named(out, to, b" start ", start);
+    let to = named(out, to, b" length ", length);
     text::byte(out, to, b'\n')
 }
 
 // Each partition begins where the one before it ends.
-fn parts(out: &mut [u8], at: usize, sizes: [u32; 8], count: usize, start: u64) -> usize {
+fn partition_lines(out: &mut [u8], at: usize, sizes: [u32; 8], count: usize, start: u64) -> usize
+    requires { ⌜ (count ≤ 8) × (start ≤ 8589934592) ⌝ }
+    ensures { λ r. ⌜ text (now (out .exit)) r ≡ puts (text (now (out .entry)) at) (partitionLines 0 start (take count sizes)) ⌝ }
+{
     let mut to = at;
     let mut from = start;
     let mut i: usize = 0;
-    while i < 8 {
-        if i == count {
-            return to;
-        }
+    while i < count {
         let length = wide(sizes[i]);
-        to = part(out, to, i as u64, from, length);
-        from = wrapping_add_u64(from, length);
+        to = partition_line(out, to, i as u64, from, length);
+        from += length;
         i += 1;
     }
     to
 }
 
-// The bytes that code the sizes: three for each partition but the last.
-fn size_bytes(log2: u8) -> u64 {
-    match log2 {
-        0 => 0,
-        1 => 3,
-        2 => 9,
-        _ => 21,
-    }
-}
-
-fn index(n: u32) -> usize {
+fn index(n: u32) -> usize
+    ensures { λ r. ⌜ r ≡ n ⌝ }
+{
     n as usize
 }
 
-fn first_start(h: Header) -> u64 {
-    let body = wrapping_add_u64(h.data_chunk_size as u64, wide(h.first_part_size));
-    wrapping_add_u64(body, size_bytes(h.log2_nbr_of_dct_partitions))
+// The bytes that code the sizes: three for each partition but the last.
+fn size_bytes(log2: u8) -> u64
+    ensures { λ r. ⌜ (r ≡ 3 * (partitionCount log2 - 1)) × (r ≤ 21) ⌝ }
+{
+    3 * (wide(vp8_flat::header::partitions(log2)) - 1)
 }
 
-fn accepted(h: Header, out: &mut [u8]) -> usize {
-    let s = vp8_flat::header::shape(h);
+fn first_start(h: Header) -> u64
+    ensures { λ r. ⌜ (r ≡ firstStart h) × (r ≤ 8589934592) ⌝ }
+{
+    wide8(h.data_chunk_size) + wide(h.first_part_size) + size_bytes(h.log2_nbr_of_dct_partitions)
+}
+
+fn accepted(out: &mut [u8], at: usize, h: Header) -> usize
+    ensures { λ r. ⌜ text (now (out .exit)) r ≡ puts (text (now (out .entry)) at) (acceptedText h) ⌝ }
+{
     let sizes = h.partition_size;
-    let values = [s[0], s[1], s[2], s[3], s[4], s[5], s[6], s[14], h.bools];
-    let to = numbers(
-        out,
-        0,
-        b"accepted key | version | show | chunk | first | size |x| parts | bools |",
-        &values,
-    );
-    let to = text::byte(out, to, b'\n');
-    parts(out, to, sizes, index(s[14]), first_start(h))
+    let partitions = vp8_flat::header::partitions(h.log2_nbr_of_dct_partitions);
+    let count = index(partitions);
+    let start = first_start(h);
+    let to = frame_line(out, at, h);
+    partition_lines(out, to, sizes, count, start)
 }
 
-// The lines, from the start of `out`; answers their length, which is under 1,024.
-pub fn answer(parsed: Parsed, out: &mut [u8]) -> usize {
+// The lines of an answer; under 1,024 bytes.
+pub fn answer(out: &mut [u8], at: usize, parsed: Parsed) -> usize
+    ensures { λ r. ⌜ text (now (out .exit)) r ≡ puts (text (now (out .entry)) at) (printed parsed) ⌝ }
+{
     let outcome = parsed.outcome;
-    let refusal = vp8_flat::header::refusal(outcome);
-    if refusal.number == 0 {
+    if outcome.number() == 0 {
         let header = parsed.header;
-        return accepted(header, out);
+        return accepted(out, at, header);
     }
-    let to = refused(out, refusal, b"refused ", b" code ", b" end ", b" length ");
+    let to = refused(
+        out,
+        at,
+        outcome,
+        b"refused ",
+        b" code ",
+        b" end ",
+        b" length ",
+    );
     text::byte(out, to, b'\n')
 }

@@ -72,7 +72,7 @@ fn hex(bytes: &[u8]) -> String {
     bytes.iter().flat_map(|b| [digits[(b >> 4) as usize] as char, digits[(b & 15) as usize] as char]).collect()
 }
 
-/// The dump line of one frame. Signed numbers stand as their two's complement byte, so -3 is 253.
+/// The dump line of one frame. The stored deltas are bytes; here they have their sign.
 fn line(a: &Answer) -> String {
     let kept = hex(&a.kept);
     match a.refusal {
@@ -86,7 +86,8 @@ fn line(a: &Answer) -> String {
         match *name {
             "part0" => out += &format!(" parts={value}"),
             "q0" => out += &format!(" q={value}"),
-            n if n.starts_with("part") || (n.starts_with('q') && n.len() == 2) => out += &format!(",{value}"),
+            n if n.starts_with("part") => out += &format!(",{value}"),
+            n if n.starts_with('q') && n.len() == 2 => out += &format!(",{}", *value as u8 as i8),
             n => {
                 if n == "range" {
                     let (coeff, rest) = a.probs.split_at(COEFFS);

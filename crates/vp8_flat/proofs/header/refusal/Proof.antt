@@ -1,5 +1,7 @@
--- By the outcome. Assumes nothing.
+-- By the outcome: the definition computes at each variant.
+use mathlib.Core.Path.{ap, sym}
 use borrow.Author.Needs.{needs}
+use Rattle.vp8_flat.specs.Numbers.{carriedOf}
 use Rattle.vp8_flat.proofs.header.refusal.Statement.{statement}
 use Rattle.vp8_flat.proofs.header.refusal.Tie as tie
 
@@ -28,25 +30,25 @@ enum-known-outcome-3 : tie.Need-enum-known-outcome-3
 enum-known-outcome-3 c = search needs
 
 returns : tie.Need-returns
-returns c = cc
+returns c = sym (ap carriedOf (c .enum-told .given .1))
 
 returns-2 : tie.Need-returns-2
-returns-2 c = cc
+returns-2 c = sym (ap carriedOf (c .enum-told2 .given .1))
 
 returns-3 : tie.Need-returns-3
-returns-3 c = cc
+returns-3 c = sym (ap carriedOf (c .before .outcome .given .1))
 
 returns-4 : tie.Need-returns-4
-returns-4 c = cc
+returns-4 c = sym (ap carriedOf (c .before .outcome2 .given .1))
 
 returns-5 : tie.Need-returns-5
-returns-5 c = cc
+returns-5 c = sym (ap carriedOf (c .enum-told3 .given .1))
 
 returns-6 : tie.Need-returns-6
-returns-6 c = cc
+returns-6 c = sym (ap carriedOf (c .enum-told4 .given .1))
 
 returns-7 : tie.Need-returns-7
-returns-7 c = cc
+returns-7 c = sym (ap carriedOf (c .before .outcome3 .given .1))
 
 pub refusal-spec : {M : Type 1} → statement M
 refusal-spec =

@@ -83,7 +83,7 @@ returns c =
     ∷ (c .before .before .before .before .wide9 .ensures ∙ c .before .before .before .before .before .bit5 .ensures) i
     ∷ c .before .before .before .wide10 .ensures i
     ∷ c .before .before .wide11 .ensures i
-    ∷ c .before .partitions .ensures i
+    ∷ c .before .partitions .ensures .0 i
     ∷ c .wide12 .ensures i
     ∷ []
 

@@ -1,0 +1,133 @@
+-- The lines of the partitions one by one, in terms of what is left; the words of a refusal by its number; and the two examples of the text, by
+-- computation.
+use Prim.Native.Nat.{ℕ, suc, _+_, _≤_, _<_}
+use native.Mathlib.Omega.{arith}
+use native.Mathlib.Numerals.{add-one}
+use mathlib.Core.Path.{_≡_, refl, ap, sym, _∙_}
+use mathlib.Core.List.{List, [], _∷_, _++_}
+use mathlib.Core.Bool.{true, false}
+use lib.Dec.{eqb}
+use lib.IntN.{ℤ}
+use lib.ListN.{length, getD, take, drop, drop-of-length-le}
+use lib.Seq.{drop-cons, length-take-le, getD-take}
+use mir.Syntax.{w8, w32}
+use mir.Val.{SFits, toZ, ofZ}
+use mir.Facts.{toZ-ofZ, sfits-widen}
+use borrow.Author.Tests.{eq-eqb, ne-eqb}
+use Rattle.vp8_records.specs.declared.Header.{Header}
+use Rattle.vp8_records.specs.declared.Parsed.{Parsed}
+use Rattle.vp8_records.specs.declared.Outcome.{Outcome}
+use Rattle.vp8_records.specs.declared.Outcome.the-variants.{InvalidPartitionSize}
+use Rattle.vp8_records.specs.Outcome.{numberOf}
+use Rattle.vp8_records.specs.Start.{fresh, blank}
+use Rattle.rfc6386.specs.Call.{answer}
+use Rattle.text.specs.Text.{Text, puts}
+use Rattle.text.specs.Digits.{digitsOf, decimalOf, signedOf}
+use Rattle.text.specs.Template.{ascii, filled}
+use Rattle.text.proofs.Puts.{puts-append, puts-nil}
+use Rattle.vp8_flat.specs.declared.header.Carried.{Carried}
+use Rattle.vp8_flat.specs.Numbers.{shapeOf, carriedOf, partitionCount}
+use Rattle.vp8_show.specs.Refusal.{carriedText, refusalText}
+use Rattle.vp8_show.specs.Printed.{frameLine, partitionLine, partitionLines, firstStart, acceptedText, printed}
+use Rattle.vp8_show.specs.Dumped.{headerText, answerText}
+
+-- a turn of the loop over the first `count` sizes, and its end
+pub turn : (t u v : Text) (sizes : List ℕ) (count i from n : ℕ) → i < count → count ≤ length sizes → n ≡ getD sizes i 0
+    → v ≡ puts u (partitionLine i from n)
+    → puts u (partitionLines i from (drop i (take count sizes))) ≡ t
+    → puts v (partitionLines (i + 1) (from + n) (drop (i + 1) (take count sizes))) ≡ t
+unfolding partitionLines
+turn t u v sizes count i from n h m e d q =
+    let all = take count sizes in
+    let long : i < length all = omega (arith, length-take-le count sizes m) in
+    let here : getD all i 0 ≡ n = getD-take count sizes i 0 h ∙ sym e in
+    let left : drop i all ≡ n ∷ drop (i + 1) all =
+    drop-cons all i 0 long ∙ ap (λ (x : ℕ). x ∷ drop (suc i) all) here ∙ ap (λ (k : ℕ). n ∷ drop k all) (sym (add-one i)) in
+    ap (λ (w : Text). puts w (partitionLines (i + 1) (from + n) (drop (i + 1) all))) d
+    ∙ sym (puts-append u (partitionLine i from n) (partitionLines (i + 1) (from + n) (drop (i + 1) all)))
+    ∙ ap (λ (l : List ℕ). puts u (partitionLines i from l)) (sym left)
+    ∙ q
+
+pub end : (t u : Text) (sizes : List ℕ) (count i from : ℕ) → count ≤ i → count ≤ length sizes
+    → puts u (partitionLines i from (drop i (take count sizes))) ≡ t → u ≡ t
+unfolding partitionLines
+end t u sizes count i from h m q =
+    let none : drop i (take count sizes) ≡ [] = drop-of-length-le (take count sizes) {i = i} (omega (arith, length-take-le count sizes m)) in
+    sym (puts-nil u) ∙ sym (ap (λ (l : List ℕ). puts u (partitionLines i from l)) none) ∙ q
+
+-- nine numbers of the flat header
+pub frame-is : (h : Header) (s : List ℕ) → s ≡ shapeOf h
+    → filled (ascii "accepted key | version | show | chunk | first | size |x| parts | bools |\n")
+    (getD s 0 0 ∷ getD s 1 0 ∷ getD s 2 0 ∷ getD s 3 0 ∷ getD s 4 0 ∷ getD s 5 0 ∷ getD s 6 0 ∷ getD s 14 0 ∷ h .bools ∷ [])
+    ≡ frameLine h
+unfolding frameLine
+frame-is h s e = rw e
+
+pub line-is : (i s n : ℕ)
+    → (ascii "part " ++ decimalOf i) ++ ((ascii " start " ++ decimalOf s) ++ ((ascii " length " ++ decimalOf n) ++ (10 ∷ []))) ≡ partitionLine i s n
+unfolding partitionLine filled
+line-is i s n = refl
+
+pub accepted-is : (h : Header) (start count : ℕ) → start ≡ firstStart h → count ≡ partitionCount (h .«log2_nbr_of_dct_partitions»)
+    → frameLine h ++ partitionLines 0 start (take count (h .«partition_size»)) ≡ acceptedText h
+unfolding acceptedText
+accepted-is h start count e d = rw (e, d)
+
+-- what a refusal carries, by its number
+pub carries-two : (code end length : List ℕ) (n a b : ℕ) → n ≡ 2 → code ++ decimalOf a ≡ carriedText code end length n (a ∷ b ∷ [])
+unfolding carriedText
+carries-two code end length n a b e = rw e
+
+pub carries-three : (code end length : List ℕ) (n a b : ℕ) → n ≡ 3
+    → (end ++ decimalOf a) ++ (length ++ decimalOf b) ≡ carriedText code end length n (a ∷ b ∷ [])
+unfolding carriedText
+carries-three code end length n a b e = rw e
+
+pub carries-none : (code end length : List ℕ) (n : ℕ) (cs : List ℕ) → (n ≡ 2 → ⊥) → (n ≡ 3 → ⊥) → [] ≡ carriedText code end length n cs
+unfolding carriedText
+carries-none code end length n cs a b = rw (ne-eqb n 2 a, ne-eqb n 3 b)
+
+pub refusal-is : (word code end length : List ℕ) (o : Outcome) (k : Carried) (n : ℕ) → k ≡ carriedOf o → n ≡ k .number
+    → (word ++ decimalOf n) ++ carriedText code end length (k .number) (k .a ∷ k .b ∷ []) ≡ refusalText word code end length o
+unfolding carriedText refusalText
+refusal-is word code end length o k n e d = rw (d, e)
+
+-- an answer by the number of its outcome
+number-zero : (p : Parsed) (n : ℕ) → n ≡ numberOf (p .outcome) → n ≡ 0 → eqb (numberOf (p .outcome)) 0 ≡ true
+number-zero p n e z = eq-eqb (numberOf (p .outcome)) 0 (sym e ∙ z)
+
+number-other : (p : Parsed) (n : ℕ) → n ≡ numberOf (p .outcome) → (n ≡ 0 → ⊥) → eqb (numberOf (p .outcome)) 0 ≡ false
+number-other p n e z = ne-eqb (numberOf (p .outcome)) 0 (λ q. z (e ∙ q))
+
+pub print-accepted : (p : Parsed) (n : ℕ) → n ≡ numberOf (p .outcome) → n ≡ 0 → acceptedText (p .header) ≡ printed p
+unfolding printed
+print-accepted p n e z = rw (number-zero p n e z)
+
+pub print-refused : (p : Parsed) (n : ℕ) → n ≡ numberOf (p .outcome) → (n ≡ 0 → ⊥)
+    → refusalText (ascii "refused ") (ascii " code ") (ascii " end ") (ascii " length ") (p .outcome) ++ (10 ∷ []) ≡ printed p
+unfolding printed
+print-refused p n e z = rw (number-other p n e z)
+
+pub dump-accepted : (p : Parsed) (n : ℕ) → n ≡ numberOf (p .outcome) → n ≡ 0 → headerText (p .header) ≡ answerText p
+unfolding answerText
+dump-accepted p n e z = rw (number-zero p n e z)
+
+pub dump-refused : (p : Parsed) (n : ℕ) → n ≡ numberOf (p .outcome) → (n ≡ 0 → ⊥)
+    → refusalText (ascii "err ") (ascii " code=") (ascii " end=") (ascii " length=") (p .outcome) ≡ answerText p
+unfolding answerText
+dump-refused p n e z = rw (number-other p n e z)
+
+-- an i8 passed on as an i32
+pub signed-is : (z r : ℤ) → SFits w8 z → r ≡ toZ w8 (ofZ w8 z) → signedOf (toZ w32 (ofZ w32 r)) ≡ signedOf z
+signed-is z r f e =
+    ap (λ (y : ℤ). signedOf (toZ w32 (ofZ w32 y))) (e ∙ toZ-ofZ {w = w8} f)
+    ∙ ap signedOf (toZ-ofZ {w = w32} (sfits-widen {w = w8} {w′ = w32} tt f))
+
+-- examples, by computation
+refusal-example : printed (answer (InvalidPartitionSize 11 10) blank fresh) ≡ ascii "refused 3 end 11 length 10\n"
+unfolding printed refusalText carriedText decimalOf digitsOf
+refusal-example = refl
+
+line-example : partitionLines 0 11 (1 ∷ []) ≡ ascii "part 0 start 11 length 1\n"
+unfolding partitionLines partitionLine filled decimalOf digitsOf
+line-example = refl
