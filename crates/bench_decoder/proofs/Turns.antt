@@ -21,7 +21,8 @@ use Rattle.bench_decoder.specs.Flags.{marked, marks}
 abbrev pub left : List ℕ → BoolDecoder → List ℕ → List Bool
 left area d ps = run (each bool ps) (bits area) (stateOf area d) .got
 
-first : (p : ℕ) (ps area : List ℕ) (d : BoolDecoder) {b : Bool} {d' : BoolDecoder} → Ran (bool p) area d b d' 1 → left area d (p ∷ ps) ≡ b ∷ left area d' ps
+first : (p : ℕ) (ps area : List ℕ) (d : BoolDecoder) {b : Bool} {d' : BoolDecoder}
+    → Ran (bool p) area d b d' 1 → left area d (p ∷ ps) ≡ b ∷ left area d' ps
 unfolding each run
 first p ps area d {b} {d'} r =
     let l = bits area in

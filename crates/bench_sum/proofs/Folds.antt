@@ -26,7 +26,8 @@ pub record Turn (sum : ℕ) (xs : List ℕ) (all i : ℕ) : Type 0 where
 pub begin : {sum : ℕ} {xs : List ℕ} → Turn sum xs sum 0
 begin = record { count = omega arith; same = refl }
 
-pub turn : {sum : ℕ} {xs : List ℕ} {all i all' : ℕ} → Turn sum xs all i → i < length xs → all' ≡ folded all (getD xs i 0) → Turn sum xs all' (i + 1)
+pub turn : {sum : ℕ} {xs : List ℕ} {all i all' : ℕ} → Turn sum xs all i → i < length xs
+    → all' ≡ folded all (getD xs i 0) → Turn sum xs all' (i + 1)
 unfolding folds
 turn {sum} {xs} {all} {i} t h e = record {
   count = omega arith;

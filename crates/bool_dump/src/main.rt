@@ -13,7 +13,7 @@ fn script(out: &mut [u8]) -> bool {
         return false;
     }
     let end = bool_script::line(&area[..size], &reads[..count], out);
-    let after = lines::byte(out, end, b'\n');
+    let after = text::byte(out, end, b'\n');
     lines::show(out, after)
 }
 

@@ -36,9 +36,9 @@ fn wrong(tally: Tally, word: &[u8]) -> Tally {
 // A number between two words.
 fn tell(words: &[u8], n: u64, after: &[u8]) {
     let mut out = [0u8; 64];
-    let at = lines::bytes(&mut out, 0, words);
-    let to = lines::decimal(&mut out, at, n);
-    let end = lines::bytes(&mut out, to, after);
+    let at = text::bytes(&mut out, 0, words);
+    let to = text::decimal(&mut out, at, n);
+    let end = text::bytes(&mut out, to, after);
     lines::show(&out, end);
 }
 
@@ -53,7 +53,7 @@ fn compare(tally: Tally, area: &[u8], reads: &[u8], stored: &[u8], out: &mut [u8
     let n = bool_script::line(area, reads, out);
     let scripts = wrapping_add_u64(tally.scripts, 1);
     let operations = wrapping_add_u64(tally.operations, (reads.len() / 2) as u64);
-    if check::same(lines::part(out, n), stored) {
+    if check::same(text::part(out, n), stored) {
         return Tally {
             scripts,
             operations,
@@ -123,7 +123,7 @@ fn script(tally: Tally, out: &mut [u8]) -> Tally {
     compare(tally, &area[..size], &reads[..count], &stored[..n], out)
 }
 
-// The case number of document 01 stands before the script, for readers.
+// The number of the worked case that the script is stands before it, for readers; 0 for none.
 fn numbered(tally: Tally, out: &mut [u8]) -> Tally {
     match lines::take_byte() {
         Number::Is(_) => script(tally, out),

@@ -1,5 +1,4 @@
 -- One kind after the other: at a place of the script, what is known of the rest follows from the kind there and the rest after it.
--- Assumes nothing.
 use Prim.Native.Nat.{ℕ, suc, _-_, _≤_, _<_}
 use native.Mathlib.Omega.{arith}
 use mathlib.Core.Path.{_≡_}

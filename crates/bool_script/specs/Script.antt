@@ -1,47 +1,56 @@
--- What one read of a script gives: the bare decoder's answer, in one type for the three kinds. Assumes nothing.
-use Prim.Native.Nat.{ℕ, _+_}
+-- A script of the bare decoder: pairs of bytes, a kind and a number. What each read asks for, and what it gives.
+use Prim.Native.Nat.{ℕ, zero, suc, _+_}
 use mathlib.Core.Path.{_≡_}
 use mathlib.Core.Bool.{Bool, true, false, cond}
 use mathlib.Core.List.{List, [], _∷_}
 use lib.Dec.{eqb, ltb}
+use lib.ListN.{length}
+use Rattle.rfc6386.specs.Decoder.{State, Out, bits, pick, refusalOf}
+use Rattle.rfc6386.specs.Reads.{Rd, run, bool, lit, sint, make}
 use Rattle.bool_decoder.specs.declared.BoolDecoder.{BoolDecoder}
-use Rattle.bool_decoder.specs.Answer.{Allows, Refuses}
-use Rattle.bool_decoder.specs.Window.{Over}
-use Rattle.rfc6386.specs.Reads.{bool, lit, sint}
+use Rattle.bool_decoder.specs.Model.{out}
+use Rattle.bool_decoder.specs.Window.{stateOf, Over}
 use Rattle.bool_script.specs.declared.Value.{Value}
 use Rattle.bool_script.specs.declared.Value.the-variants.{Bit, Plain, Signed, Refused}
 
--- a read that is refused leaves the decoder
-pub record Kept (area : List ℕ) (d : BoolDecoder) (width wanted number : ℕ) (d' : BoolDecoder) : Type 0 where
-  pub refuses : Refuses area d width wanted number
-  pub same : d' ≡ d
+-- what a read asks of the bare decoder: a width, which is limited, the bools that it wants, and its tree
+pub record Ask : Type 0 where
+  pub width : ℕ
+  pub wanted : ℕ
+  pub tree : Rd Value
+
+-- a bool at a probability, a literal and a signed literal of a width
+abbrev pub askBool : ℕ → Ask
+askBool p = record { width = 1; wanted = 1; tree = make Bit (bool p) }
+
+abbrev pub askPlain : ℕ → Ask
+askPlain w = record { width = w; wanted = w; tree = make Plain (lit w) }
+
+abbrev pub askSigned : ℕ → Ask
+askSigned w = record { width = w; wanted = w + 1; tree = make Signed (sint w) }
+
+-- kind 0, 1 and 2; any other kind counts as 2
+unfoldable pub askOf : ℕ → ℕ → Ask
+askOf kind n = pick (eqb kind 0) (askBool n) (pick (eqb kind 1) (askPlain n) (askSigned n))
+
+-- by the number of a refusal, 0 for none: a refused read leaves the state
+abbrev pub orRefused : ℕ → State → Out Value → Out Value
+orRefused zero s o = o
+orRefused (suc k) s o = out (Refused (suc k)) s
+
+-- what the bare decoder answers
+unfoldable pub answered : List ℕ → Ask → State → Out Value
+answered area a s = orRefused (refusalOf (length area) (a .width) (a .wanted) (s .n)) s (run (a .tree) (bits area) s)
+
+-- the decoder d answers v, and leaves d'
+pub record Gives (area : List ℕ) (a : Ask) (d : BoolDecoder) (v : Value) (d' : BoolDecoder) : Type 0 where
+  pub is : answered area a (stateOf area d) ≡ out v (stateOf area d')
   pub over : Over area d'
 
-abbrev pub BoolGives : List ℕ → BoolDecoder → ℕ → Value → BoolDecoder → Type 0
-BoolGives area d p (Bit b) d' = Allows (bool p) area d 1 1 b d'
-BoolGives area d p (Plain n) d' = ⊥
-BoolGives area d p (Signed z) d' = ⊥
-BoolGives area d p (Refused number) d' = Kept area d 1 1 number d'
-
-abbrev pub UintGives : List ℕ → BoolDecoder → ℕ → Value → BoolDecoder → Type 0
-UintGives area d w (Bit b) d' = ⊥
-UintGives area d w (Plain n) d' = Allows (lit w) area d w w n d'
-UintGives area d w (Signed z) d' = ⊥
-UintGives area d w (Refused number) d' = Kept area d w w number d'
-
-abbrev pub SintGives : List ℕ → BoolDecoder → ℕ → Value → BoolDecoder → Type 0
-SintGives area d w (Bit b) d' = ⊥
-SintGives area d w (Plain n) d' = ⊥
-SintGives area d w (Signed z) d' = Allows (sint w) area d w (w + 1) z d'
-SintGives area d w (Refused number) d' = Kept area d w (w + 1) number d'
-
-abbrev pub pickGives : Bool → Type 0 → Type 0 → Type 0
-pickGives true a b = a
-pickGives false a b = b
-
-unfoldable pub Meets : List ℕ → BoolDecoder → ℕ → ℕ → Value → BoolDecoder → Type 0
-Meets area d kind n v d' =
-    pickGives (eqb kind 0) (BoolGives area d n v d') (pickGives (eqb kind 1) (UintGives area d n v d') (SintGives area d n v d'))
+-- d' is left where d has answered
+pub record Leaves (area : List ℕ) (a : Ask) (d d' : BoolDecoder) : Type 0 where
+  pub state : stateOf area d' ≡ answered area a (stateOf area d) .then
+  pub over : Over area d'
 
 -- each kind is at most 2; a kind is every second byte
 unfoldable pub known : List ℕ → Bool

@@ -2,27 +2,38 @@
 // and 2 bytes a read.
 use crate::kinds_known;
 use lines::Number;
+ghost use mathlib.Core.Path.{_≡_};
 ghost use Rattle.io.specs.Counts.{Counts};
+ghost use Rattle.bool_script.specs.Input.{isWhole};
 
 // How the input goes on: by a whole script, by its end, or by a fault.
 pub enum Came {
+    // A whole script.
     Whole,
+    // Nothing more.
     End,
+    // A number of bytes or of reads above the limit.
     TooLarge,
+    // A script that ends before its end.
     CutShort,
+    // A read of a kind that is not known.
     BadKind,
 }
 
-// How it came, and how many bytes of area and of reads there are.
+// A script as far as it came.
 pub struct Script {
+    // How it came.
     pub came: Came,
+    // How many bytes of the area there are.
     pub area: usize,
+    // How many bytes of reads there are, two a read.
     pub reads: usize,
 }
 
-pub struct Reads {
-    pub came: Came,
-    pub count: usize,
+// The reads of a script as far as they came, and their bytes.
+struct Reads {
+    came: Came,
+    count: usize,
 }
 
 fn take_reads(reads: &mut [u8], count: u32) -> Reads
@@ -119,7 +130,9 @@ pub fn take(area: &mut [u8], reads: &mut [u8]) -> Script
 }
 
 // Whether a whole script came; a fault gets a line that says what is wrong.
-pub fn whole(came: Came) -> bool {
+pub fn whole(came: Came) -> bool
+    ensures { λ r. ⌜ r ≡ isWhole came ⌝ }
+{
     match came {
         Came::Whole => true,
         Came::End => false,

@@ -7,32 +7,42 @@ use bool_decoder::BoolDecoder;
 use bool_decoder::SintAnswer;
 use bool_decoder::UintAnswer;
 ghost use mathlib.Core.Path.{_≡_};
-ghost use Prim.Native.Nat.{_<_};
-ghost use Rattle.bool_decoder.specs.Window.{Over};
-ghost use Rattle.bool_script.specs.Script.{Meets, BoolGives, UintGives, SintGives, known};
+ghost use lib.Dec.{eqb};
+ghost use Rattle.rfc6386.specs.Decoder.{bits};
+ghost use Rattle.bool_decoder.specs.Window.{Over, stateOf};
+ghost use Rattle.text.specs.Text.{text, puts};
+ghost use Rattle.bool_script.specs.Script.{askBool, askPlain, askSigned, askOf, answered, Gives, Leaves, known};
+ghost use Rattle.bool_script.specs.Line.{valueText, readText, gapText, endText, spaced as Line·spaced, lineOf};
 
 // What a read gave.
 pub enum Value {
+    // A bool.
     Bit(bool),
+    // A literal.
     Plain(u32),
+    // A signed literal.
     Signed(i32),
+    // Nothing: the number of its refusal.
     Refused(u32),
 }
 
+// What a read gave, and the decoder after it.
 pub struct Answer {
+    // What the read gave.
     pub value: Value,
+    // The decoder after it, where a refusal leaves it as it was.
     pub dec: BoolDecoder,
 }
 
 // What a step leaves: the decoder, and where the line ends.
-pub struct Told {
-    pub dec: BoolDecoder,
-    pub at: usize,
+struct Told {
+    dec: BoolDecoder,
+    at: usize,
 }
 
 fn read_bool(area: &[u8], dec: BoolDecoder, probability: u8) -> Answer
     requires { ⌜ Over (now area) dec ⌝ }
-    ensures { λ r. ⌜ BoolGives (now (area .entry)) dec probability (r .value) (r .dec) ⌝ }
+    ensures { λ r. ⌜ Gives (now (area .entry)) (askBool probability) dec (r .value) (r .dec) ⌝ }
 {
     match dec.read_bool_with_prob(area, probability) {
         BoolAnswer::Read(r) => {
@@ -51,7 +61,7 @@ fn read_bool(area: &[u8], dec: BoolDecoder, probability: u8) -> Answer
 
 fn read_plain(area: &[u8], dec: BoolDecoder, width: u8) -> Answer
     requires { ⌜ Over (now area) dec ⌝ }
-    ensures { λ r. ⌜ UintGives (now (area .entry)) dec width (r .value) (r .dec) ⌝ }
+    ensures { λ r. ⌜ Gives (now (area .entry)) (askPlain width) dec (r .value) (r .dec) ⌝ }
 {
     match dec.read_uint(area, width as u32) {
         UintAnswer::Read(r) => {
@@ -70,7 +80,7 @@ fn read_plain(area: &[u8], dec: BoolDecoder, width: u8) -> Answer
 
 fn read_signed(area: &[u8], dec: BoolDecoder, width: u8) -> Answer
     requires { ⌜ Over (now area) dec ⌝ }
-    ensures { λ r. ⌜ SintGives (now (area .entry)) dec width (r .value) (r .dec) ⌝ }
+    ensures { λ r. ⌜ Gives (now (area .entry)) (askSigned width) dec (r .value) (r .dec) ⌝ }
 {
     match dec.read_sint(area, width as u32) {
         SintAnswer::Read(r) => {
@@ -90,7 +100,7 @@ fn read_signed(area: &[u8], dec: BoolDecoder, width: u8) -> Answer
 // One read of a script. A kind that is not known counts as a signed literal.
 pub fn read(area: &[u8], dec: BoolDecoder, kind: u8, number: u8) -> Answer
     requires { ⌜ Over (now area) dec ⌝ }
-    ensures { λ r. ⌜ Meets (now (area .entry)) dec kind number (r .value) (r .dec) ⌝ }
+    ensures { λ r. ⌜ Gives (now (area .entry)) (askOf kind number) dec (r .value) (r .dec) ⌝ }
 {
     if kind == 0 {
         return read_bool(area, dec, number);
@@ -101,48 +111,57 @@ pub fn read(area: &[u8], dec: BoolDecoder, kind: u8, number: u8) -> Answer
     read_signed(area, dec, number)
 }
 
-fn tell(out: &mut [u8], at: usize, value: Value) -> usize {
+fn tell(out: &mut [u8], at: usize, value: Value) -> usize
+    ensures { λ r. ⌜ text (now (out .exit)) r ≡ puts (text (now (out .entry)) at) (valueText value) ⌝ }
+{
     match value {
         Value::Bit(b) => {
             if b {
-                lines::byte(out, at, b'1')
+                text::byte(out, at, b'1')
             } else {
-                lines::byte(out, at, b'0')
+                text::byte(out, at, b'0')
             }
         }
-        Value::Plain(n) => lines::decimal(out, at, n as u64),
-        Value::Signed(z) => lines::signed(out, at, z),
+        Value::Plain(n) => text::decimal(out, at, n as u64),
+        Value::Signed(z) => text::signed(out, at, z),
         Value::Refused(n) => {
-            let after = lines::byte(out, at, b'r');
-            lines::decimal(out, after, n as u64)
+            let after = text::byte(out, at, b'r');
+            text::decimal(out, after, n as u64)
         }
     }
 }
 
+// One read, and what the line says of it.
 fn step(area: &[u8], dec: BoolDecoder, kind: u8, number: u8, out: &mut [u8], at: usize) -> Told
     requires { ⌜ Over (now area) dec ⌝ }
-    ensures { λ r. ⌜ Over (now (area .entry)) (r .dec) ⌝ }
+    ensures { λ r. ⌜ Leaves (now (area .entry)) (askOf kind number) dec (r .dec) ⌝ }
+    ensures { λ r. ⌜ text (now (out .exit)) (r .at) ≡ puts (text (now (out .entry)) at)
+        (readText (bits (now (area .entry))) (answered (now (area .entry)) (askOf kind number) (stateOf (now (area .entry)) dec))) ⌝ }
 {
     let answer = read(area, dec, kind, number);
     let value = answer.value;
     let next = answer.dec;
     let told = tell(out, at, value);
-    let comma = lines::bytes(out, told, b",@");
-    let end = lines::decimal(out, comma, next.pos(area) as u64);
+    let comma = text::bytes(out, told, b",@");
+    let end = text::decimal(out, comma, next.pos(area) as u64);
     Told { dec: next, at: end }
 }
 
-fn spaced(out: &mut [u8], at: usize, n: u64) -> usize {
-    let after = lines::byte(out, at, b' ');
-    lines::decimal(out, after, n)
+fn spaced(out: &mut [u8], at: usize, n: u64) -> usize
+    ensures { λ r. ⌜ text (now (out .exit)) r ≡ puts (text (now (out .entry)) at) (Line·spaced n) ⌝ }
+{
+    let after = text::byte(out, at, b' ');
+    text::decimal(out, after, n)
 }
 
 // What the decoder shows: range, value, count and position.
-fn shown(area: &[u8], dec: BoolDecoder, out: &mut [u8], at: usize) -> usize
+fn finish(area: &[u8], dec: BoolDecoder, out: &mut [u8], at: usize) -> usize
     requires { ⌜ Over (now area) dec ⌝ }
+    ensures { λ r. ⌜ text (now (out .exit)) r
+        ≡ puts (text (now (out .entry)) at) (endText (bits (now (area .entry))) (stateOf (now (area .entry)) dec)) ⌝ }
 {
     let state = dec.snapshot(area);
-    let bar = lines::bytes(out, at, b" |");
+    let bar = text::bytes(out, at, b" |");
     let range = spaced(out, bar, state.range as u64);
     let value = spaced(out, range, state.value as u64);
     let count = spaced(out, value, state.count as u64);
@@ -167,28 +186,29 @@ pub fn kinds_known(reads: &[u8]) -> bool
 }
 
 // A space before every read but the first.
-fn gap(out: &mut [u8], at: usize, place: usize) -> usize {
-    if 0 < place {
-        lines::byte(out, at, b' ')
-    } else {
+fn gap(out: &mut [u8], at: usize, place: usize) -> usize
+    ensures { λ r. ⌜ text (now (out .exit)) r ≡ puts (text (now (out .entry)) at) (gapText (eqb place 0)) ⌝ }
+{
+    if place == 0 {
         at
+    } else {
+        text::byte(out, at, b' ')
     }
 }
 
-// The script's line, from the start of `out`; answers its length.
-pub fn line(area: &[u8], reads: &[u8], out: &mut [u8]) -> usize {
+// The script's line, from the start of `out`; answers its length. A byte without its second is no read.
+pub fn line(area: &[u8], reads: &[u8], out: &mut [u8]) -> usize
+    ensures { λ r. ⌜ text (now (out .exit)) r ≡ puts (text (now (out .entry)) 0) (lineOf (now (area .entry)) (now (reads .entry))) ⌝ }
+{
     let mut dec = BoolDecoder::new(area);
     let mut at: usize = 0;
     let mut i: usize = 0;
-    while i < reads.len() {
-        if reads.len() - i < 2 {
-            return at;
-        }
+    while i + 1 < reads.len() {
         at = gap(out, at, i);
         let told = step(area, dec, reads[i], reads[i + 1], out, at);
         dec = told.dec;
         at = told.at;
         i += 2;
     }
-    shown(area, dec, out, at)
+    finish(area, dec, out, at)
 }

@@ -45,7 +45,8 @@ returns c =
     let flags =
     written .bytes .ensures
     ∙ ap (folds _) (λ i. two .before .bit .ensures i ∷ two .bit2 .ensures i ∷ four .before .bit3 .ensures i ∷ four .bit4 .ensures i ∷ []) in
-    then _ _ _ flags (then _ _ _ (c .before .before .before .ints .ensures) (then _ _ _ (c .before .before .ints2 .ensures) (c .bytes2 .ensures)))
+    let levels = then _ _ _ (c .before .before .ints2 .ensures) (c .bytes2 .ensures) in
+    then _ _ _ flags (then _ _ _ (c .before .before .before .ints .ensures) levels)
 
 pub segmentation-spec : {M : Type 1} → statement M
 segmentation-spec =

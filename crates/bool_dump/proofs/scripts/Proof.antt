@@ -1,4 +1,5 @@
--- The measure is the number of turns that are left; the buffer keeps its length. Assumes nothing.
+-- The measure is the number of turns that are left; the buffer keeps its length. Each program has a copy: a loop's needs are
+-- of its own locals.
 use mathlib.Core.Path.{_≡_, refl}
 use lib.ListN.{length}
 use borrow.Author.Needs.{needs}

@@ -1,4 +1,4 @@
--- What is left of the script is known where the whole is. Assumes nothing.
+-- What is left of the script is known where the whole is.
 use Prim.Native.Nat.{suc, _+_, _-_, _≤_}
 use native.Mathlib.Omega.{arith}
 use mathlib.Core.Path.{_≡_, refl, sym, _∙_}
@@ -27,7 +27,9 @@ sub-if2 : tie.Need-sub-if2 Inv-loop μ-loop
 sub-if2 c = omega arith
 
 returns-2 : tie.Need-returns-2 Inv-loop μ-loop
-returns-2 c = sym (last-one _ _ (c .before .before .before .loop-test .taken) (c .if2 .taken) (c .before .if1 .left)) ∙ c .before .before .before .before .loop .inv .1
+returns-2 c =
+    let at-turn = c .before .before .before in
+    sym (last-one _ _ (at-turn .loop-test .taken) (c .if2 .taken) (c .before .if1 .left)) ∙ at-turn .before .loop .inv .1
 
 add-i : tie.Need-add-i Inv-loop μ-loop
 add-i c = omega arith

@@ -1,6 +1,7 @@
--- Each case of the answer is passed on; a refusal leaves the decoder. Assumes nothing.
-use mathlib.Core.Path.{refl}
+-- Each case of the answer is passed on, by the two laws of `Answers`.
 use borrow.Author.Needs.{needs}
+use Rattle.bool_script.specs.declared.Value.the-variants.{Plain}
+use Rattle.bool_script.proofs.Answers.{allowed, refused}
 use Rattle.bool_script.proofs.read_plain.Statement.{statement}
 use Rattle.bool_script.proofs.read_plain.Tie as tie
 
@@ -14,12 +15,12 @@ enum-known-number : tie.Need-enum-known-number
 enum-known-number c = search needs
 
 returns : tie.Need-returns
-returns c = rw (c .before .before .r .given .1) at (c .before .before .before .before .read-uint .ensures)
+returns c = allowed Plain _ (rw (c .before .before .r .given .1) at (c .before .before .before .before .read-uint .ensures))
 
 returns-2 : tie.Need-returns-2
 returns-2 c =
-    let e = rw (c .before .number .given .1) at (c .before .before .before .read-uint .ensures) in
-    record { refuses = e; same = refl; over = c .before .before .before .before .before .pre }
+    let called = c .before .before .before in
+    refused _ (called .before .before .pre) (rw (c .before .number .given .1) at (called .read-uint .ensures))
 
 pub read-plain-spec : {M : Type 1} → statement M
 read-plain-spec =

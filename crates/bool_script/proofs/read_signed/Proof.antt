@@ -1,8 +1,9 @@
--- Each case of the answer is passed on; a refusal leaves the decoder. Assumes nothing.
-use mathlib.Core.Path.{refl}
+-- Each case of the answer is passed on, by the two laws of `Answers`.
 use mir.Syntax.{w32}
 use mir.Facts.{toZ-ofZ}
 use borrow.Author.Needs.{needs}
+use Rattle.bool_script.specs.declared.Value.the-variants.{Signed}
+use Rattle.bool_script.proofs.Answers.{allowed, refused}
 use Rattle.bool_script.proofs.read_signed.Statement.{statement}
 use Rattle.bool_script.proofs.read_signed.Tie as tie
 
@@ -16,12 +17,15 @@ enum-known-number : tie.Need-enum-known-number
 enum-known-number c = search needs
 
 returns : tie.Need-returns
-returns c = rw (toZ-ofZ {w = w32} {z = c .before .before .before .r .given .0 .0 .value} (record { sfits = c .struct-told .given .0 .1 })) (rw (c .before .before .before .r .given .1) at (c .before .before .before .before .before .read-sint .ensures))
+returns c =
+    let found = c .before .before .before in
+    let back = toZ-ofZ {w = w32} {z = found .r .given .0 .0 .value} (record { sfits = c .struct-told .given .0 .1 }) in
+    rw back (allowed Signed _ (rw (found .r .given .1) at (found .before .before .read-sint .ensures)))
 
 returns-2 : tie.Need-returns-2
 returns-2 c =
-    let e = rw (c .before .number .given .1) at (c .before .before .before .read-sint .ensures) in
-    record { refuses = e; same = refl; over = c .before .before .before .before .before .pre }
+    let called = c .before .before .before in
+    refused _ (called .before .before .pre) (rw (c .before .number .given .1) at (called .read-sint .ensures))
 
 pub read-signed-spec : {M : Type 1} → statement M
 read-signed-spec =

@@ -1,8 +1,22 @@
--- Whatever the read gave, its decoder is one over the area. Assumes nothing.
-use Rattle.bool_script.proofs.Stays.{stays}
+-- What the read gave, the comma and the position are the pieces of its text; `leaves` of `Answers` says where the decoder is left.
+use Prim.Native.Nat.{ℕ}
+use mathlib.Core.Path.{_≡_, ap}
+use mathlib.Core.List.{[], _∷_, _++_}
+use Rattle.rfc6386.specs.Decoder.{State, Out, position}
+use Rattle.bool_decoder.specs.Model.{out}
+use Rattle.text.specs.Digits.{decimalOf}
+use Rattle.text.proofs.Puts.{then, worded}
+use Rattle.bool_script.specs.Line.{valueText, readText}
+use Rattle.bool_script.specs.declared.Value.{Value}
+use Rattle.bool_script.proofs.Answers.{leaves}
 use borrow.Author.Needs.{needs}
 use Rattle.bool_script.proofs.step.Statement.{statement}
 use Rattle.bool_script.proofs.step.Tie as tie
+
+read-text : (l : ℕ) (o : Out Value) (v : Value) (s : State) → o ≡ out v s
+    → valueText v ++ (44 ∷ 64 ∷ decimalOf (position l s)) ≡ readText l o
+unfolding readText
+read-text l o v s e = rw e
 
 read-requires : tie.Need-read-requires
 read-requires c κs = search needs
@@ -30,9 +44,12 @@ same-length c = search needs
 
 returns : tie.Need-returns
 returns c =
-    let s = c .before .before .before .before .before .before .before .before .before .before .before .before .before .before .before .before .before .before .args in
-    let r = c .before .before .before .before .before .before .before .before .before .before .before .before .before .before .before .read in
-    stays (s .dec) (s .kind) (s .number) (r .result .value) (r .ensures)
+    let at-bytes = c .before .before .before .before .before .before .before in
+    let at-tell = at-bytes .before .before .before .before .before in
+    let read = at-tell .before .before .before .read .ensures in
+    let place = worded _ _ _ _ (c .before .before .decimal .ensures) (ap decimalOf (c .before .before .before .pos .ensures)) in
+    let pieces = then _ _ _ _ _ (at-tell .tell .ensures) (then _ _ _ (44 ∷ 64 ∷ []) _ (at-bytes .bytes .ensures) place) in
+    (leaves read, worded _ _ _ _ pieces (read-text _ _ _ _ (read .is)))
 
 pub step-spec : {M : Type 1} → statement M
 step-spec =

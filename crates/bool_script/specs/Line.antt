@@ -1,0 +1,45 @@
+-- The line that tells a script, as tests/oracle/README.md lays it out: for each read what it gave, `,@` and the position after it, with
+-- spaces between; then ` |` and range, value, count and position.
+use Prim.Native.Nat.{ℕ}
+use mathlib.Core.Bool.{Bool, true, false}
+use mathlib.Core.List.{List, [], _∷_, _++_}
+use Rattle.rfc6386.specs.Decoder.{State, Out, bits, start, whole, countOf, position}
+use Rattle.rfc6386.specs.Reads.{bit}
+use Rattle.text.specs.Digits.{decimalOf, signedOf}
+use Rattle.bool_script.specs.Script.{askOf, answered}
+use Rattle.bool_script.specs.declared.Value.{Value}
+use Rattle.bool_script.specs.declared.Value.the-variants.{Bit, Plain, Signed, Refused}
+
+-- a value in decimal; `r` and the number of a refusal
+unfoldable pub valueText : Value → List ℕ
+valueText (Bit b) = decimalOf (bit b)
+valueText (Plain n) = decimalOf n
+valueText (Signed z) = signedOf z
+valueText (Refused k) = 114 ∷ decimalOf k
+
+-- one read: what it gave, `,@`, and the position after it
+unfoldable pub readText : ℕ → Out Value → List ℕ
+readText l o = valueText (o .got) ++ (44 ∷ 64 ∷ decimalOf (position l (o .then)))
+
+-- a space before every read but the first
+abbrev pub gapText : Bool → List ℕ
+gapText true = []
+gapText false = 32 ∷ []
+
+abbrev pub spaced : ℕ → List ℕ
+spaced n = 32 ∷ decimalOf n
+
+-- the end of a line: what the decoder shows
+unfoldable pub endText : ℕ → State → List ℕ
+endText l s = (32 ∷ 124 ∷ []) ++ (spaced (s .r) ++ (spaced (whole l s) ++ (spaced (countOf s) ++ spaced (position l s))))
+
+-- the reads from a state on, the first of all where `first` is set; a byte without its second is no read
+unfoldable pub lineFrom : List ℕ → Bool → List ℕ → State → List ℕ
+lineFrom area first [] s = endText (bits area) s
+lineFrom area first (k ∷ []) s = endText (bits area) s
+lineFrom area first (k ∷ (n ∷ reads)) s =
+    let o = answered area (askOf k n) s in
+    gapText first ++ (readText (bits area) o ++ lineFrom area false reads (o .then))
+
+unfoldable pub lineOf : List ℕ → List ℕ → List ℕ
+lineOf area reads = lineFrom area true reads (start area)
