@@ -1,3 +1,2 @@
--- What the contracts cite: a text that grows in a lent buffer, and numbers that were read.
-pub mod Text
+-- What the contracts cite: numbers that were read.
 pub mod Read

@@ -1,4 +1,4 @@
--- Numbers from the input. Assumes nothing.
+-- Numbers from the input.
 use Prim.Native.Nat.{ℕ, _<_}
 use Rattle.lines.specs.declared.Number.{Number}
 use Rattle.lines.specs.declared.Number.the-variants.{Is, End, Short}

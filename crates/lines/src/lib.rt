@@ -1,101 +1,14 @@
-// Text in a buffer that the caller lends, and whole numbers and runs of bytes from standard input: what the programs share.
-// A text is the first `at` bytes of `out`. Each writer puts its bytes there, as far as the buffer goes, and answers the new count.
+// Input and output of the programs: a text to standard output, and numbers and runs of bytes from standard input.
 // No public function has a premise.
 ghost use mathlib.Core.Path.{_≡_};
-ghost use mathlib.Core.List.{[]};
 ghost use Prim.Native.Nat.{_<_, _≤_, _+_, _*_};
-ghost use lib.ListN.{getD, take as List·take};
-ghost use lib.IntN.{natAbs};
+ghost use lib.ListN.{getD};
 ghost use Rattle.io.specs.Counts.{Counts};
-ghost use Rattle.io.specs.Digits.{glyph as Digits·glyph};
-ghost use Rattle.lines.specs.Text.{text, put, puts, hexOf, Spelled, minus};
 ghost use Rattle.lines.specs.Read.{Below};
-
-pub fn byte(out: &mut [u8], at: usize, b: u8) -> usize
-    ensures { λ r. ⌜ text (now (out .exit)) r ≡ put (text (now (out .entry)) at) b ⌝ }
-{
-    if at < out.len() {
-        out[at] = b;
-        at + 1
-    } else {
-        at
-    }
-}
-
-pub fn bytes(out: &mut [u8], at: usize, src: &[u8]) -> usize
-    ensures { λ r. ⌜ text (now (out .exit)) r ≡ puts (text (now (out .entry)) at) (now (src .entry)) ⌝ }
-{
-    let mut to = at;
-    let mut i = 0;
-    while i < src.len() {
-        to = byte(out, to, src[i]);
-        i += 1;
-    }
-    to
-}
-
-fn glyph(d: u8) -> u8
-    requires { ⌜ d < 16 ⌝ }
-    ensures { λ r. ⌜ r ≡ Digits·glyph d ⌝ }
-{
-    if d < 10 { 48 + d } else { 87 + d }
-}
-
-// Two digits a byte, in lower case.
-pub fn hex(out: &mut [u8], at: usize, src: &[u8]) -> usize
-    ensures { λ r. ⌜ text (now (out .exit)) r ≡ puts (text (now (out .entry)) at) (hexOf (now (src .entry))) ⌝ }
-{
-    let mut to = at;
-    let mut i = 0;
-    while i < src.len() {
-        to = byte(out, to, glyph(src[i] / 16));
-        to = byte(out, to, glyph(src[i] % 16));
-        i += 1;
-    }
-    to
-}
-
-pub fn decimal(out: &mut [u8], at: usize, n: u64) -> usize
-    ensures { λ r. ⌜ Spelled [] n (text (now (out .entry)) at) (text (now (out .exit)) r) ⌝ }
-{
-    let mut digits = [0u8; 20];
-    let k = io::decimal(n, &mut digits);
-    bytes(out, at, &digits[..k])
-}
-
-fn size(z: i32) -> u64
-    ensures { λ r. ⌜ r ≡ natAbs z ⌝ }
-{
-    let wide = z as i64;
-    if wide < 0 {
-        (0 - wide) as u64
-    } else {
-        wide as u64
-    }
-}
-
-// With a minus sign below 0.
-pub fn signed(out: &mut [u8], at: usize, z: i32) -> usize
-    ensures { λ r. ⌜ Spelled (minus z) (natAbs z) (text (now (out .entry)) at) (text (now (out .exit)) r) ⌝ }
-{
-    let n = size(z);
-    if z < 0 {
-        let after = byte(out, at, b'-');
-        return decimal(out, after, n);
-    }
-    decimal(out, at, n)
-}
-
-// The text itself; all of `out` where n is more.
-pub fn part(out: &[u8], n: usize) -> &[u8]
-    ensures { λ r. ⌜ now r ≡ List·take n (now (out .entry)) ⌝ }
-{
-    if n < out.len() { &out[..n] } else { out }
-}
 
 // The text to standard output; false where not all could be written.
 pub fn show(out: &[u8], n: usize) -> bool {
-    io::write_all(libc::STDOUT_FILENO, part(out, n))
+    io::write_all(libc::STDOUT_FILENO, text::part(out, n))
 }
 
 // A line of its own.

@@ -1,4 +1,4 @@
--- What an accepted call was made of: the definition's tests taken apart, once. By cases on each test. Assumes nothing.
+-- What an accepted call was made of: the definition's tests taken apart, once. By cases on each test.
 use Prim.Native.Nat.{ℕ, _+_, _%_, _^_, _≤_, _<_}
 use native.Mathlib.Omega.{arith}
 use mathlib.Core.Path.{_≡_, refl, ap}
@@ -12,10 +12,9 @@ use Rattle.vp8_records.specs.declared.Parser.{Parser}
 use Rattle.vp8_records.specs.declared.Outcome.the-variants.{Accepted, ChunkTooShort, InvalidStartCode, FrameTooLong}
 use Rattle.vp8_records.specs.Outcome.{numberOf}
 use Rattle.rfc6386.specs.Bytes.{le3}
-use Rattle.rfc6386.specs.Decoder.{bits, start}
-use Rattle.rfc6386.specs.Reads.{run}
-use Rattle.rfc6386.specs.Coded.{Coded, header}
-use Rattle.rfc6386.specs.Frame.{Chunk, Opened, shut, opened, keyChunk, chunk, Snapshot, snapshot, sizes, Body, beyond, empty, read, headed, body, follows, inside, decode}
+use Rattle.rfc6386.specs.Decoder.{bits}
+use Rattle.rfc6386.specs.Coded.{Coded}
+use Rattle.rfc6386.specs.Frame.{Chunk, Opened, shut, opened, keyChunk, chunk, Snapshot, snapshot, sizes, Body, beyond, empty, read, held, decoded, headed, body, follows, inside, decode}
 use Rattle.rfc6386.specs.Call.{probsOf, probsOver, shown, apply, headerOf, base, answer, finish, call}
 
 -- what holds of both answers of a test holds of the one it picks
@@ -41,36 +40,41 @@ shuts f =
     choose Shuts (leb (2 ^ 28) (length f)) (shut (FrameTooLong (length f))) _ (lit< tt)
     (choose Shuts (ltb (length f) 3) (shut ChunkTooShort) _ (lit< tt) (choose Shuts (eqb (le3 f 0 % 2) 0) (keyChunk f) _ (key-shuts f) tt))
 
+-- the bytes that the decoder runs over
+abbrev pub heldBy : Chunk → List ℕ → List ℕ
+heldBy k f = held (k .first) (drop (k .size) f)
+
 -- a header that was read to its end
 pub record Reading (k : Chunk) (f : List ℕ) (c : Coded) (s : Snapshot) (ss : Option (List ℕ)) : Type 0 where
   pub fits : k .size + k .first ≤ length f
-  pub coded : run (header (k .key)) (bits (drop (k .size) f)) (start (drop (k .size) f)) .got ≡ c
-  pub seen : snapshot (bits (drop (k .size) f)) (run (header (k .key)) (bits (drop (k .size) f)) (start (drop (k .size) f)) .then) ≡ s
+  pub coded : decoded (k .key) (heldBy k f) .got ≡ c
+  pub seen : snapshot (bits (heldBy k f)) (decoded (k .key) (heldBy k f) .then) ≡ s
   pub parts : sizes (2 ^ c .log2parts) (drop (k .size) f) (k .first) ≡ ss
 
 body-read : (k : Chunk) (f : List ℕ) (c : Coded) (s : Snapshot) (ss : Option (List ℕ)) → body k f ≡ read c s ss → Reading k f c s ss
 unfolding body headed
-body-read k f c s ss e = go (ltb (length f) (k .size + k .first)) refl (drop (k .size) f) refl e
+body-read k f c s ss e = go (ltb (length f) (k .size + k .first)) refl (heldBy k f) refl e
   where
     from : (b : Bool) (a : List ℕ) → Body
     from b a = elim b [
       | true ↦ beyond (k .size + k .first) (length f)
-      | false ↦ elim a [ [] ↦ empty | x ∷ xs ↦ headed k (x ∷ xs) (run (header (k .key)) (bits (x ∷ xs)) (start (x ∷ xs))) ]
+      | false ↦ elim a [ [] ↦ empty | x ∷ xs ↦ headed k (drop (k .size) f) (x ∷ xs) (decoded (k .key) (x ∷ xs)) ]
     ]
 
-    go : (b : Bool) → ltb (length f) (k .size + k .first) ≡ b → (a : List ℕ) → drop (k .size) f ≡ a → from b a ≡ read c s ss → Reading k f c s ss
+    go : (b : Bool) → ltb (length f) (k .size + k .first) ≡ b → (a : List ℕ) → heldBy k f ≡ a → from b a ≡ read c s ss
+        → Reading k f c s ss
     go true h a g e = absurd (let z : _≡_ {A = ℕ} 0 1 = cc in omega arith)
     go false h [] g e = absurd (let z : _≡_ {A = ℕ} 0 1 = cc in omega arith)
     go false h (x ∷ xs) g e =
-        let o = run (header (k .key)) (bits (x ∷ xs)) (start (x ∷ xs)) in
+        let o = decoded (k .key) (x ∷ xs) in
         let coded : o .got ≡ c = cc in
         let seen : snapshot (bits (x ∷ xs)) (o .then) ≡ s = cc in
-        let parts : sizes (2 ^ o .got .log2parts) (x ∷ xs) (k .first) ≡ ss = cc in
+        let parts : sizes (2 ^ o .got .log2parts) (drop (k .size) f) (k .first) ≡ ss = cc in
         record {
           fits = ltb-false _ _ h;
           coded = rw g coded;
           seen = rw g seen;
-          parts = rw (g, ← coded) parts;
+          parts = rw (← coded) parts;
         }
 
 -- an accepted call: what the frame said, and the answer that this makes

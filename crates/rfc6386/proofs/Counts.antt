@@ -1,40 +1,49 @@
--- How many bools a header has, at least and at most: a bound for each way to put trees together, then one for each sub-header.
--- Assumes nothing.
-use Prim.Native.Nat.{ℕ, zero, suc, _+_, _*_, _≤_}
+-- How many bools a header has, at least and at most, each at a probability below 256: a bound for each way to put trees together, then
+-- one for each sub-header.
+use Prim.Native.Nat.{ℕ, zero, suc, _+_, _*_, _≤_, _<_}
 use native.Mathlib.Nat.{mul-zero, mul-suc}
 use native.Mathlib.Omega.{arith}
+use mathlib.Core.Path.{_≡_, refl}
 use mathlib.Core.Bool.{Bool, true, false, not}
 use mathlib.Core.List.{List, [], _∷_}
+use lib.Dec.{ltb, lit<}
 use lib.IntN.{ℤ, pos}
 use lib.ListN.{length}
+use borrow.Author.Tests.{ltb-true}
 use Rattle.vp8_probs.specs.Tables.{coeffUpdate, mvUpdate}
 use Rattle.rfc6386.specs.Decoder.{State, start, bits, readBool}
 use Rattle.rfc6386.specs.Reads.{Rd, ret, ask, _>>=_, run, bool, flag, when, litFrom, lit, sint, make, times, each, maybe, orElse}
 use Rattle.rfc6386.specs.Coded.{anew, features, noFeatures, mapped, segments, deltas, quant, refresh, coefficients, motion, modes, inter, noInter, header}
 use Rattle.rfc6386.proofs.Trees.{run-bind}
-use Rattle.rfc6386.proofs.Range.{read-few}
+use Rattle.rfc6386.proofs.Range.{Asks, asks-bind, read-few}
 
--- m reads lo to hi bools, over every area and from every state
+-- m reads lo to hi bools, over every area and from every state, and its probabilities are bytes
 pub record Counted {A : Type 0} (m : Rd A) (lo hi : ℕ) : Type 0 where
   pub low : (l : ℕ) (s : State) → s .n + lo ≤ run m l s .then .n
   pub high : (l : ℕ) (s : State) → run m l s .then .n ≤ s .n + hi
+  pub asks : Asks m
 
 none : {A : Type 0} (a : A) → Counted (ret a) 0 0
 unfolding run
-none a = record { low = λ l s. omega arith; high = λ l s. omega arith }
+none a = record { low = λ l s. omega arith; high = λ l s. omega arith; asks = tt }
 
-one : (p : ℕ) → Counted (bool p) 1 1
+one : (p : ℕ) → p < 256 → Counted (bool p) 1 1
 unfolding run bool
-one p = record { low = λ l s. omega (arith, read-few l p s .1); high = λ l s. omega (arith, read-few l p s .1) }
+one p h = record {
+  low = λ l s. omega (arith, read-few l p s .1);
+  high = λ l s. omega (arith, read-few l p s .1);
+  asks = (h, λ b. tt);
+}
 
 both : {A B : Type 0} {m : Rd A} (f : A → Rd B) {a b c e : ℕ} → Counted m a b → ((x : A) → Counted (f x) c e) → Counted (m >>= f) (a + c) (b + e)
 both {m} f p q = record {
   low = λ l s. rw (run-bind m f l s) (omega (arith, p .low l s, q (run m l s .got) .low l (run m l s .then)));
   high = λ l s. rw (run-bind m f l s) (omega (arith, p .high l s, q (run m l s .got) .high l (run m l s .then)));
+  asks = asks-bind m f (p .asks) (λ x. q x .asks);
 }
 
 wider : {A : Type 0} {m : Rd A} {a b c e : ℕ} → c ≤ a → b ≤ e → Counted m a b → Counted m c e
-wider h g p = record { low = λ l s. omega (arith, p .low l s); high = λ l s. omega (arith, p .high l s) }
+wider h g p = record { low = λ l s. omega (arith, p .low l s); high = λ l s. omega (arith, p .high l s); asks = p .asks }
 
 -- under a flag
 under : {A : Type 0} {m : Rd A} (b : Bool) (x : A) {lo hi : ℕ} → Counted m lo hi → Counted (when b m x) 0 hi
@@ -44,7 +53,7 @@ under false x p = wider (omega arith) (omega arith) (none x)
 
 a-flag : Counted flag 1 1
 unfolding flag
-a-flag = one 128
+a-flag = one 128 (lit< tt)
 
 -- the same with what is made of the value
 made : {A B : Type 0} {m : Rd A} (f : A → B) {lo hi : ℕ} → Counted m lo hi → Counted (make f m) lo hi
@@ -68,9 +77,9 @@ or-else : {A : Type 0} {m : Rd A} (x : A) {lo hi : ℕ} → Counted m lo hi → 
 unfolding orElse
 or-else x p = both _ a-flag (λ b. under b x p)
 
-a-maybe : {A : Type 0} {m : Rd A} (p : ℕ) {lo hi : ℕ} → Counted m lo hi → Counted (maybe p m) 1 (1 + hi)
+a-maybe : {A : Type 0} {m : Rd A} (p : ℕ) → p < 256 → {lo hi : ℕ} → Counted m lo hi → Counted (maybe p m) 1 (1 + hi)
 unfolding maybe
-a-maybe p q = both _ (one p) (λ b. under b _ (made _ q))
+a-maybe p h q = both _ (one p h) (λ b. under b _ (made _ q))
 
 many : {A : Type 0} {m : Rd A} (n : ℕ) {lo hi : ℕ} → Counted m lo hi → Counted (times n m) (lo * n) (hi * n)
 unfolding times
@@ -78,12 +87,31 @@ many zero {lo} {hi} p = rw (mul-zero lo, mul-zero hi) (none [])
 many (suc n) {lo} {hi} p =
     rw (mul-suc lo n, mul-suc hi n) (wider (omega arith) (omega arith) (both _ p (λ x. both _ (many n p) (λ xs. none (x ∷ xs)))))
 
-all : {A B : Type 0} {f : A → Rd B} {lo hi : ℕ} → ((x : A) → Counted (f x) lo hi) → (xs : List A) → Counted (each f xs) (lo * length xs) (hi * length xs)
+-- every number of a run is a byte: a test that computes
+abbrev Passed : Bool → Type 0 → Type 0
+Passed true P = P
+Passed false P = ⊥
+
+abbrev Bytes : List ℕ → Type 0
+Bytes [] = Unit {0}
+Bytes (x ∷ xs) = Passed (ltb x 256) (Bytes xs)
+
+first-byte : (x : ℕ) (xs : List ℕ) → Bytes (x ∷ xs) → (x < 256) × Bytes xs
+first-byte x xs = go (ltb x 256) refl
+  where
+    go : (b : Bool) → ltb x 256 ≡ b → Passed b (Bytes xs) → (x < 256) × Bytes xs
+    go true e h = (ltb-true x 256 e, h)
+    go false e h = absurd h
+
+-- a read for each of them
+all : {B : Type 0} {f : ℕ → Rd B} {lo hi : ℕ} → ((x : ℕ) → x < 256 → Counted (f x) lo hi) → (xs : List ℕ) → Bytes xs
+    → Counted (each f xs) (lo * length xs) (hi * length xs)
 unfolding each
-all {lo} {hi} p [] = rw (mul-zero lo, mul-zero hi) (none [])
-all {lo} {hi} p (x ∷ xs) =
+all {lo = lo} {hi} p [] h = rw (mul-zero lo, mul-zero hi) (none [])
+all {lo = lo} {hi} p (x ∷ xs) h =
+    let b = first-byte x xs h in
     rw (mul-suc lo (length xs), mul-suc hi (length xs))
-    (wider (omega arith) (omega arith) (both _ (p x) (λ y. both _ (all p xs) (λ ys. none (y ∷ ys)))))
+    (wider (omega arith) (omega arith) (both _ (p x (b .0)) (λ y. both _ (all p xs (b .1)) (λ ys. none (y ∷ ys)))))
 
 values : {A : Type 0} {m : Rd A} (n : ℕ) (x : A) {lo hi : ℕ} → Counted m lo hi → Counted (anew n m x) (1 * n) ((1 + hi) * n)
 unfolding anew
@@ -103,7 +131,8 @@ of-deltas : Counted deltas 1 66
 unfolding deltas
 of-deltas =
     both _ a-flag (λ e. both _ (under e false a-flag) (λ u.
-    both _ (under u [] (many 4 (a-maybe 128 (a-sint 6)))) (λ f. both _ (under u [] (many 4 (a-maybe 128 (a-sint 6)))) (λ m. none _))))
+    both _ (under u [] (many 4 (a-maybe 128 (lit< tt) (a-sint 6)))) (λ f.
+    both _ (under u [] (many 4 (a-maybe 128 (lit< tt) (a-sint 6)))) (λ m. none _))))
 
 a-delta : (w : ℕ) (x : ℤ) → Counted (orElse (sint w) x) 1 (1 + (w + 1))
 a-delta w x = or-else x (a-sint w)
@@ -126,11 +155,11 @@ of-refresh-inter =
 
 of-coefficients : Counted coefficients 1056 9504
 unfolding coefficients coeffUpdate
-of-coefficients = all (λ p. a-maybe p (a-lit 8)) coeffUpdate
+of-coefficients = all (λ p h. a-maybe p h (a-lit 8)) coeffUpdate tt
 
 of-motion : Counted motion 38 304
 unfolding motion mvUpdate
-of-motion = all (λ p. a-maybe p (made _ (a-lit 7))) mvUpdate
+of-motion = all (λ p h. a-maybe p h (made _ (a-lit 7))) mvUpdate tt
 
 of-modes : (n : ℕ) → Counted (modes n) 1 (1 + 8 * n)
 unfolding modes
@@ -160,6 +189,10 @@ key-header = of-header true a-flag of-refresh-key (none noInter)
 pub inter-header : Counted (header false) 1153 10123
 unfolding when
 inter-header = of-header false (none false) of-refresh-inter of-inter
+
+pub asks-header : (key : Bool) → Asks (header key)
+asks-header true = key-header .asks
+asks-header false = inter-header .asks
 
 -- at most seven doublings a bool
 pub few-doublings : {A : Type 0} (m : Rd A) (l : ℕ) (s : State) → run m l s .then .c + 7 * s .n ≤ s .c + 7 * run m l s .then .n

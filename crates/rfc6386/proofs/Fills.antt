@@ -1,5 +1,5 @@
 -- In an accepted frame the parts lie end to end and fill it, and the bools are within their bounds. The lengths add up to the frame's,
--- and cuts of lengths that add up have those lengths and join to the whole. Assumes nothing.
+-- and cuts of lengths that add up have those lengths and join to the whole.
 use Prim.Native.Nat.{ℕ, zero, suc, _+_, _-_, _*_, _^_, _≤_, _<_}
 use native.Mathlib.Omega.{arith}
 use native.Mathlib.Nat.{pow-le-pow-right}
@@ -17,14 +17,14 @@ use Rattle.vp8_records.specs.declared.Parsed.{Parsed}
 use Rattle.vp8_records.specs.declared.Outcome.the-variants.{Accepted}
 use Rattle.vp8_records.specs.Layout.{joined}
 use Rattle.rfc6386.specs.Decoder.{bits, start}
-use Rattle.rfc6386.specs.Reads.{run, flag, when, lit}
-use Rattle.rfc6386.specs.Coded.{Coded, segments, deltas, quant, refresh, coefficients, inter, noInter, header}
-use Rattle.rfc6386.specs.Frame.{Snapshot, codedSizes, sum, sizes, snapshot}
+use Rattle.rfc6386.specs.Coded.{Coded, header}
+use Rattle.rfc6386.specs.Frame.{Snapshot, codedSizes, sum, sizes, snapshot, decoded}
 use Rattle.rfc6386.specs.Call.{headerOf, call}
 use Rattle.rfc6386.specs.Fills.{lengths, cuts, Fills}
-use Rattle.rfc6386.proofs.Trees.{Always, always-ret, always-bind, always-skip, lit-small}
+use Rattle.rfc6386.proofs.Trees.{Always}
 use Rattle.rfc6386.proofs.Counts.{Counted, key-header, inter-header}
-use Rattle.rfc6386.proofs.Accepts.{accepted}
+use Rattle.rfc6386.proofs.Holds.{header-fits}
+use Rattle.rfc6386.proofs.Accepts.{heldBy, accepted}
 
 cuts-are : (ns f : List ℕ) → sum ns ≡ length f → (map length (cuts ns f) ≡ ns) × (joined (λ part. part) (cuts ns f) ≡ f)
 unfolding cuts joined sum
@@ -77,13 +77,7 @@ abbrev pub FewParts : Coded → Type 0
 FewParts c = c .log2parts < 4
 
 pub few-parts : (key : Bool) → Always FewParts (header key)
-unfolding header
-few-parts key =
-    always-skip FewParts (when key flag false) _ (λ cs. always-skip FewParts (when key flag false) _ (λ ct. always-skip FewParts segments _ (λ sg.
-    always-skip FewParts flag _ (λ ft. always-skip FewParts (lit 6) _ (λ ll. always-skip FewParts (lit 3) _ (λ sh. always-skip FewParts deltas _ (λ ds.
-    always-bind (λ x. x < 4) FewParts (lit 2) _ (lit-small 2) (λ lp h. always-skip FewParts quant _ (λ q. always-skip FewParts (refresh key) _ (λ rf.
-    always-skip FewParts coefficients _ (λ co. always-skip FewParts flag _ (λ sk. always-skip FewParts (when sk (lit 8) 0) _ (λ sp.
-    always-skip FewParts (when (not key) inter noInter) _ (λ it. always-ret FewParts _ h))))))))))))))
+few-parts key l s = header-fits key l s .log2parts
 
 -- n is 1, 2, 4 or 8
 few-partitions : (x : ℕ) → x < 4 → 2 ^ x ≤ 8
@@ -96,8 +90,8 @@ module _ (p : Parser) (f : List ℕ) (h : call p f .outcome ≡ Accepted) where
   adds-up =
       let a = accepted p f h in
       let n : ℕ = 2 ^ a .c .log2parts in
-      let area : List ℕ = drop (a .k .size) f in
-      let small : a .c .log2parts < 4 = rw (a .reading .coded) at (few-parts (a .k .key) (bits area) (start area)) in
+      let bytes : List ℕ = heldBy (a .k) f in
+      let small : a .c .log2parts < 4 = rw (a .reading .coded) at (few-parts (a .k .key) (bits bytes) (start bytes)) in
       let eight : n ≤ 8 = few-partitions _ small in
       let some : 0 < n = pow-pos (a .c .log2parts) in
       let r = sizes-fill n (drop (a .k .size) f) (a .k .first) (a .ss) some (a .reading .parts) in
@@ -118,11 +112,11 @@ module _ (p : Parser) (f : List ℕ) (h : call p f .outcome ≡ Accepted) where
   bools-are b e lo hi q =
       let a = accepted p f h in
       let key : a .k .key ≡ b = sym (ap (λ (x : Parsed). x .header .«key_frame») (a .answers)) ∙ e in
-      let area : List ℕ = drop (a .k .size) f in
-      let n : call p f .header .bools ≡ run (header b) (bits area) (start area) .then .n =
+      let bytes : List ℕ = heldBy (a .k) f in
+      let n : call p f .header .bools ≡ decoded b bytes .then .n =
       ap (λ (x : Parsed). x .header .bools) (a .answers) ∙ sym (ap (λ (s : Snapshot). s .bools) (a .reading .seen))
-      ∙ ap (λ (k : Bool). run (header k) (bits area) (start area) .then .n) key in
-      (omega (arith, n, q .low (bits area) (start area)), omega (arith, n, q .high (bits area) (start area)))
+      ∙ ap (λ (key : Bool). decoded key bytes .then .n) key in
+      (omega (arith, n, q .low (bits bytes) (start bytes)), omega (arith, n, q .high (bits bytes) (start bytes)))
 
   pub key-bools : call p f .header .«key_frame» ≡ true → (1086 ≤ call p f .header .bools) × (call p f .header .bools ≤ 9730)
   key-bools e = bools-are true e 1086 9730 key-header

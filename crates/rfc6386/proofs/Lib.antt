@@ -4,4 +4,5 @@ pub mod Trees
 pub mod Range
 pub mod Counts
 pub mod Accepts
+pub mod Holds
 pub mod Fills

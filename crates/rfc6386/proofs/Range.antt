@@ -1,5 +1,4 @@
 -- One read: S lies in 1 .. R - 1, R returns to 128 .. 255, one bool is counted, and at most seven doublings. By cases on each doubling.
--- Assumes nothing.
 use Prim.Native.Nat.{ℕ, zero, suc, _+_, _-_, _*_, _/_, _^_, _≤_, _<_}
 use native.Mathlib.Nat.{div-lt-iff-lt-mul, mul-lt-mul-of-pos-left, pow-succ', mul-assoc}
 use native.Mathlib.Omega.{arith}
@@ -8,7 +7,7 @@ use mathlib.Core.Bool.{Bool, true, false}
 use lib.Dec.{leb}
 use borrow.Author.Tests.{leb-true, leb-false}
 use Rattle.rfc6386.specs.Decoder.{State, split, double, normal, chosen, readBool}
-use Rattle.rfc6386.specs.Reads.{Rd, ret, ask, run}
+use Rattle.rfc6386.specs.Reads.{Rd, ret, ask, _>>=_}
 
 pub split-within : (r p : ℕ) → 128 ≤ r → p < 256 → (1 ≤ split r p) × (split r p < r)
 split-within r p h g =
@@ -67,12 +66,7 @@ abbrev pub Asks : {A : Type 0} → Rd A → Type 0
 Asks (ret a) = Unit {0}
 Asks (ask p k) = (p < 256) × ((b : Bool) → Asks (k b))
 
--- so R lies there after any reads
-pub run-within : {A : Type 0} (m : Rd A) → Asks m → (l : ℕ) (s : State) → 128 ≤ s .r → s .r < 256
-    → (128 ≤ run m l s .then .r) × (run m l s .then .r < 256)
-unfolding run
-run-within (ret a) h l s g j = (g, j)
-run-within (ask p k) h l s g j =
-    let o = readBool l p s in
-    let w = read-within l p s g j (h .0) in
-    run-within (k (o .got)) (h .1 (o .got)) l (o .then) (w .0) (w .1)
+pub asks-bind : {A B : Type 0} (m : Rd A) (f : A → Rd B) → Asks m → ((x : A) → Asks (f x)) → Asks (m >>= f)
+unfolding _>>=_
+asks-bind (ret a) f h g = g a
+asks-bind (ask p k) f h g = (h .0, λ b. asks-bind (k b) f (h .1 b) g)

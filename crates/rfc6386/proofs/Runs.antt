@@ -1,4 +1,4 @@
--- Laws of what is written over a run. By induction on the run. Assumes nothing.
+-- Laws of what is written over a run. By induction on the run.
 use Prim.Native.Nat.{suc}
 use native.Mathlib.Omega.{arith}
 use mathlib.Core.Path.{_≡_, refl, ap}

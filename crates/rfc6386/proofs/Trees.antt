@@ -1,4 +1,4 @@
--- Laws of trees: what a run of two reads one after the other is, and what holds of every value that a tree can read. Assumes nothing.
+-- Laws of trees: what a run of two reads one after the other is, and what holds of every value that a tree can read. By induction on the tree.
 use Prim.Native.Nat.{ℕ, zero, suc, _+_, _*_, _^_, _<_}
 use native.Mathlib.Nat.{pow-suc, add-zero, zero-add, add-suc, suc-add}
 use native.Mathlib.Omega.{arith}

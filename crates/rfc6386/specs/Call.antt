@@ -1,4 +1,4 @@
--- The second step of a call: what a frame's words make of the kept numbers (document 01, "What the parser keeps" and its refusal table).
+-- The second step of a call: what a frame's words make of the kept numbers (docs/RULES.md: what is kept, and the table of refusals).
 use Prim.Native.Nat.{ℕ, _/_, _%_, _^_}
 use mathlib.Core.Bool.{Bool, false}
 use mathlib.Core.Option.{Option, none, some}
@@ -100,6 +100,10 @@ cleared p = record {
   «mode_probs» = p .«mode_probs»;
 }
 
+-- macroblock columns of a width, or rows of a height
+abbrev pub blocks : ℕ → ℕ
+blocks n = n / 16
+
 -- the header of an accepted frame
 unfoldable pub headerOf : Chunk → Coded → Snapshot → List ℕ → Probs → Header
 headerOf k c s ss q = record {
@@ -141,13 +145,17 @@ headerOf k c s ss q = record {
   «bd_count» = s .count;
   «header_size» = s .position;
   «bools» = s .bools;
-  «mb_cols» = k .width % 2 ^ 14 / 16;
-  «mb_rows» = k .height % 2 ^ 14 / 16;
+  «mb_cols» = blocks (k .width % 2 ^ 14);
+  «mb_rows» = blocks (k .height % 2 ^ 14);
 }
 
--- the state that a frame starts from: a valid key-frame chunk resets
+-- what a valid key-frame chunk resets to
+abbrev pub reset : Chunk → Parser
+reset k = fresh
+
+-- the state that a frame starts from
 abbrev pub base : Chunk → Parser → Parser
-base k p = pick (k .key) fresh p
+base k p = pick (k .key) (reset k) p
 
 abbrev pub answer : Outcome → Header → Parser → Parsed
 answer o h p = record { outcome = o; header = h; parser = p }
@@ -160,7 +168,7 @@ sized (some ss) k c s p = answer Accepted (headerOf k c s ss (shown (k .key) (pr
 abbrev pub finish : Said → Parser → Parsed
 finish (refused o) p = answer o blank p
 finish (follows k (beyond end length)) p = answer (InvalidPartitionSize end length) blank (base k p)
-finish (follows k empty) p = answer EmptyArea blank (pick (k .key) fresh (cleared p))
+finish (follows k empty) p = answer EmptyArea blank (base k (cleared p))
 finish (follows k (read c s ss)) p = sized ss k c s (base k p)
 
 -- one call

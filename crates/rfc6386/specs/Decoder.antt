@@ -1,4 +1,4 @@
--- The boolean decoder as arithmetic (RFC 6386 section 7.2, as document 01 states it). The area is a list of bytes, followed by
+-- The boolean decoder as arithmetic (RFC 6386 section 7.2). The area is a list of bytes, followed by
 -- endless zero bits; V is that stream read as a binary number with 8 bits before the point.
 use Prim.Native.Nat.{ℕ, zero, suc, _+_, _-_, _*_, _/_, _%_, _^_, min}
 use mathlib.Core.Bool.{Bool, true, false, _&&_}

@@ -35,6 +35,10 @@ tagged tag key size width height = record {
   height = height;
 }
 
+-- those of a key frame, whose sizes follow its start code
+abbrev pub keyed : List ℕ → Chunk
+keyed f = tagged (le3 f 0) true 10 (le2 f 6) (le2 f 8)
+
 pub data Opened : Type 0 where
   shut : Outcome → Opened
   opened : Chunk → Opened
@@ -47,7 +51,7 @@ keyChunk f = elim (ltb (length f) 6) [
     | false ↦ shut (InvalidStartCode (le3 f 3))
     | true ↦ elim (ltb (length f) 10) [
       | true ↦ shut ChunkTooShort
-      | false ↦ opened (tagged (le3 f 0) true 10 (le2 f 6) (le2 f 8))
+      | false ↦ opened (keyed f)
     ]
   ]
 ]
@@ -104,18 +108,28 @@ pub data Body : Type 0 where
   empty : Body
   read : Coded → Snapshot → Option (List ℕ) → Body
 
--- D2: the decoder runs over the whole area, and not the first partition alone
-unfoldable pub headed : Chunk → List ℕ → Out Coded → Body
-headed k area o = read (o .got) (snapshot (bits area) (o .then)) (sizes (2 ^ o .got .log2parts) area (k .first))
+-- what the decoder may read of the area, by first_part_size: all of it, and not the first partition alone (D2)
+abbrev pub held : ℕ → List ℕ → List ℕ
+held first area = area
+
+-- the header's tree, run over the bytes that are held
+abbrev pub decoded : Bool → List ℕ → Out Coded
+decoded key bytes = run (header key) (bits bytes) (start bytes)
+
+-- the snapshot is of the bytes that are held; the sizes stand in the area
+unfoldable pub headed : Chunk → List ℕ → List ℕ → Out Coded → Body
+headed k area bytes o = read (o .got) (snapshot (bits bytes) (o .then)) (sizes (2 ^ o .got .log2parts) area (k .first))
 
 unfoldable pub body : Chunk → List ℕ → Body
-body k f = elim (ltb (length f) (k .size + k .first)) [
-  | true ↦ beyond (k .size + k .first) (length f)
-  | false ↦ elim (drop (k .size) f) [
-    | [] ↦ empty
-    | b ∷ bs ↦ headed k (b ∷ bs) (run (header (k .key)) (bits (b ∷ bs)) (start (b ∷ bs)))
-  ]
-]
+body k f =
+    let area = drop (k .size) f in
+    elim (ltb (length f) (k .size + k .first)) [
+      | true ↦ beyond (k .size + k .first) (length f)
+      | false ↦ elim (held (k .first) area) [
+        | [] ↦ empty
+        | b ∷ bs ↦ headed k area (b ∷ bs) (decoded (k .key) (b ∷ bs))
+      ]
+    ]
 
 pub data Said : Type 0 where
   refused : Outcome → Said

@@ -1,3 +1,4 @@
--- The cases' one statement, and the wrong parsers shut out.
+-- One statement for the cases, one for the frames with every field, and the wrong parsers shut out.
 pub mod Cases
+pub mod Fields
 pub mod Wrong

@@ -1,6 +1,7 @@
--- None of the five wrong parsers meets the contract of `parse`: document 01's cases 6, 7 and 11, computed, tell each apart. Assumes nothing.
+-- None of the five wrong parsers meets the contract of `parse`: the worked cases 6, 7 and 11, computed, tell each apart.
 use Prim.Native.Nat.{ℕ}
 use native.Mathlib.Omega.{arith}
+use native.Mathlib.Decide.{ℕ-discrete}
 use mathlib.Core.Path.{_≡_, refl, sym, ap, _∙_}
 use mathlib.Core.Bool.{Bool, true, false}
 use mathlib.Core.List.{List, [], _∷_, _++_}
@@ -17,7 +18,7 @@ use Rattle.rfc6386.specs.Coded.{anew, features, segments, deltas, quant, refres
 use Rattle.rfc6386.specs.Frame.{keyChunk, chunk, snapshot, codedSizes, sum, sizes, headed, body, decode}
 use Rattle.rfc6386.specs.Call.{segmented, apply, headerOf, call}
 use Rattle.rfc6386_cases.specs.Cases.{key176x144}
-use Rattle.rfc6386_cases.specs.Wrong.{Function, Meets, RefusesAll, FixedHeader, Untouched, Repeats, Invents}
+use Rattle.rfc6386_cases.specs.Wrong.{Function, Meets, RefusesAll, FixedHeader, Untouched, Repeats, Invents, Constant}
 
 abbrev six : List ℕ
 six = key176x144 0x30 ++ (0x00 ∷ 0x00 ∷ [])
@@ -95,8 +96,23 @@ module _ (g : Function) (meets : Meets g) where
       apart (g fresh six .header .«key_frame») six-key
       (ap (λ (y : Header). y .«key_frame») (sym (h six seven)) ∙ seven-key (g fresh six .parser))
 
-  pub not-invents : (n : ℕ) → Invents n g → ⊥
-  not-invents n h =
-      let a : g fresh six .header .bools ≡ 1086 = ap (λ (r : Parsed). r .header .bools) (meets fresh six) ∙ ap (λ (t : Told). t .bools) six-is in
-      let b : g fresh seven .header .bools ≡ 1157 = ap (λ (r : Parsed). r .header .bools) (meets fresh seven) ∙ seven-is fresh .1 in
-      omega (arith, a, b, h fresh six six-outcome, h fresh seven seven-outcome)
+  pub not-invents : Invents g → ⊥
+  not-invents h = h .other (ap (λ (r : Parsed). r .header .bools) (meets (h .parser) (h .frame)))
+
+-- a constant count is invented: if it is that of case 6, it is not that of case 7
+pub constant-invents : (g : Function) (n : ℕ) → Constant n g → Invents g
+constant-invents g n h = go (ℕ-discrete n 1086)
+  where
+    go : Dec (n ≡ 1086) → Invents g
+    go (yes e) = record {
+      parser = fresh;
+      frame = seven;
+      accepted = seven-is fresh .0;
+      other = λ x. omega (arith, h fresh seven, x, seven-is fresh .1, e);
+    }
+    go (no e) = record {
+      parser = fresh;
+      frame = six;
+      accepted = ap (λ (t : Told). t .outcome) six-is;
+      other = λ x. e (sym (h fresh six) ∙ x ∙ ap (λ (t : Told). t .bools) six-is);
+    }

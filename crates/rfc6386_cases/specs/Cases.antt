@@ -1,8 +1,10 @@
--- Document 01's cases marked P, as one list: 1 to 5 are frames, 13 to 18 reads of the bare decoder. Each says what goes in and what comes out.
+-- The worked cases that are proved (docs/RULES.md numbers them), as one list: 1 to 5 are frames, 13 to 18 reads of the bare decoder. Each
+-- says what goes in and what comes out.
 use Prim.Native.Nat.{ℕ}
-use mathlib.Core.Bool.{Bool, true, false}
+use mathlib.Core.Bool.{Bool, true, false, not, _&&_}
 use mathlib.Core.List.{List, [], _∷_}
-use lib.IntN.{pos}
+use lib.Dec.{eqb}
+use lib.IntN.{ℤ, pos, negsuc}
 use lib.ListN.{replicate}
 use Rattle.vp8_records.specs.declared.Parser.{Parser}
 use Rattle.vp8_records.specs.declared.Header.{Header}
@@ -13,7 +15,7 @@ use Rattle.vp8_records.specs.Start.{fresh, blank}
 use Rattle.rfc6386.specs.Decoder.{State, start, bits, readBool, whole, countOf, position}
 use Rattle.rfc6386.specs.Call.{call}
 
--- a parser that differs from the fresh one in every kind of number, so that a reset shows
+-- a parser that differs from the fresh one in every kept number, so that a reset shows
 unfoldable pub marked : Parser
 marked = record {
   segmentation = record {
@@ -35,6 +37,19 @@ marked = record {
   «mv_prob» = laidMv (replicate 38 7);
   «mode_probs» = record { «intra_16x16_prob» = replicate 4 8; «intra_chroma_prob» = replicate 3 9 };
 }
+
+-- whether two runs are as long as each other and differ in every number
+abbrev pub same : ℤ → ℤ → Bool
+same (pos m) (pos n) = eqb m n
+same (pos m) (negsuc n) = false
+same (negsuc m) (pos n) = false
+same (negsuc m) (negsuc n) = eqb m n
+
+unfoldable pub apart : List ℤ → List ℤ → Bool
+apart [] [] = true
+apart [] (y ∷ ys) = false
+apart (x ∷ xs) [] = false
+apart (x ∷ xs) (y ∷ ys) = not (same x y) && apart xs ys
 
 -- one call: the outcome's number, what it carries, the header, the state left
 pub record Seen : Type 0 where
@@ -80,7 +95,7 @@ resets f n cs =
     frame f (record { number = n; carried = cs; header = blank; left = fresh })
     (record { number = n; carried = cs; header = blank; left = fresh })
 
--- K of document 01, after a tag
+-- a key frame's start code and sizes, 176 by 144, after a tag
 abbrev pub key176x144 : ℕ → List ℕ
 key176x144 tag = tag ∷ 0x00 ∷ 0x00 ∷ 0x9D ∷ 0x01 ∷ 0x2A ∷ 0xB0 ∷ 0x00 ∷ 0x90 ∷ 0x00 ∷ []
 

@@ -1,4 +1,5 @@
--- Five wrong parsers (document 01, "How tight the contracts are"), as functions from a record and a frame to an answer.
+-- Five wrong parsers, each a property of a function from a record and a frame to an answer. None that has it meets the contract of
+-- `parse` (proofs/Wrong.antt).
 use Prim.Native.Nat.{ℕ}
 use mathlib.Core.Path.{_≡_}
 use mathlib.Core.List.{List}
@@ -32,6 +33,13 @@ Untouched g = (p : Parser) (f : List ℕ) → g p f .parser ≡ p
 abbrev pub Repeats : Function → Type 0
 Repeats g = (f f′ : List ℕ) → g (g fresh f .parser) f′ .header ≡ g fresh f .header
 
--- 5: its count of bools is made up: the same for every accepted frame
-abbrev pub Invents : ℕ → Function → Type 0
-Invents n g = (p : Parser) (f : List ℕ) → g p f .outcome ≡ Accepted → g p f .header .bools ≡ n
+-- 5: it invents its count of bools: for some frame that is to be accepted, over some record, it is not the definition's
+pub record Invents (g : Function) : Type 0 where
+  pub parser : Parser
+  pub frame : List ℕ
+  pub accepted : call parser frame .outcome ≡ Accepted
+  pub other : g parser frame .header .bools ≡ call parser frame .header .bools → ⊥
+
+-- as one that always gives the same count
+abbrev pub Constant : ℕ → Function → Type 0
+Constant n g = (p : Parser) (f : List ℕ) → g p f .header .bools ≡ n

@@ -1,1 +1,2 @@
-// Document 01's cases of the definition: the list is specs/Cases.antt, its one statement proofs/Cases.antt. It has no code.
+// Worked cases of the definition, and wrong parsers: the lists are specs/Cases.antt and specs/Fields.antt, with one statement each in
+// proofs. It has no code.

@@ -1,8 +1,8 @@
 -- Demand 3. A cutter's answer does not depend on what was kept, so a run of calls splits there; and a kept number is what the last frame
--- that wrote it since then wrote, by induction over the frames. Assumes nothing.
+-- that wrote it since then wrote. Both by induction over the frames, by cases on whether a later one is a cutter.
 use Prim.Native.Nat.{ℕ}
-use mathlib.Core.Path.{_≡_, refl, sym, ap, _∙_}
-use mathlib.Core.Bool.{Bool, true, false, _||_, or-true, or-false, true≢false}
+use mathlib.Core.Path.{_≡_, refl, sym, ap, ap₂, _∙_}
+use mathlib.Core.Bool.{Bool, true, false, _||_, or-true, or-false, true≢false, false≢true}
 use mathlib.Core.List.{List, [], _∷_, _++_, map}
 use lib.IntN.{ℤ}
 use Rattle.vp8_records.specs.declared.Parser.{Parser}
@@ -13,7 +13,8 @@ use Rattle.rfc6386.specs.Runs.{or}
 use Rattle.rfc6386.specs.Call.{call, calls, after}
 use Rattle.rfc6386_history.specs.Kept.{kept}
 use Rattle.vp8_records.specs.Shape.{Sized}
-use Rattle.rfc6386_history.specs.History.{cutter, anyCutter, since, writes, last}
+use Rattle.rfc6386_history.specs.History.{cutter, anyCutter, since, before, Latest, writes, last}
+use Rattle.rfc6386_history.specs.Answered.{shows}
 use Rattle.rfc6386_history.proofs.Runs.{or-last}
 use Rattle.rfc6386_history.proofs.Writes.{sized-fresh}
 use Rattle.rfc6386_history.proofs.Step.{forgets, sized-call, writes-one}
@@ -54,6 +55,62 @@ unfolding since
 since-cutter [] k ys h e = rw e
 since-cutter (x ∷ xs) k ys h e = rw (any-cutter xs k ys h) (since-cutter xs k ys h e)
 
+-- the latest cutter splits the frames, and nothing is lost
+pub before-since : (xs : List (List ℕ)) → before xs ++ since xs ≡ xs
+unfolding before since
+before-since [] = refl
+before-since (x ∷ xs) = go (anyCutter xs) (before-since xs)
+  where
+    go : (b : Bool) → before xs ++ since xs ≡ xs → pick b (x ∷ before xs) [] ++ pick b (since xs) (x ∷ xs) ≡ x ∷ xs
+    go true ih = ap (λ (l : List (List ℕ)). x ∷ l) ih
+    go false ih = refl
+
+-- what follows the split begins with the latest cutter
+pub since-latest : (xs : List (List ℕ)) → anyCutter xs ≡ true → Latest (since xs)
+unfolding since anyCutter
+since-latest [] h = absurd (false≢true h)
+since-latest (x ∷ xs) h = go (anyCutter xs) refl h (since-latest xs)
+  where
+    go : (b : Bool) → anyCutter xs ≡ b → cutter x || b ≡ true → (anyCutter xs ≡ true → Latest (since xs))
+        → Latest (pick b (since xs) (x ∷ xs))
+    go true e h ih = ih e
+    go false e h ih = (rw or-false at h, e)
+
+-- whatever is had of each call, if a cutter's owes nothing to what was kept: that of the calls before the latest cutter, then that of a
+-- fresh parser which is fed only the calls since; of all calls on the parser where there is no cutter
+module _ {A : Type 0} (g : Parser → List ℕ → A) (same : (p q : Parser) (f : List ℕ) → cutter f ≡ true → g p f ≡ g q f) where
+  pub shows-cut : (p : Parser) (xs : List (List ℕ))
+      → shows g p xs ≡ shows g p (before xs) ++ shows g (pick (anyCutter xs) fresh p) (since xs)
+  unfolding shows before since anyCutter
+  shows-cut p [] = refl
+  shows-cut p (x ∷ xs) = go (anyCutter xs) (cutter x) refl (shows-cut (call p x .parser) xs)
+    where
+      q : Parser
+      q = call p x .parser
+
+      go : (b c : Bool) → cutter x ≡ c → shows g q xs ≡ shows g q (before xs) ++ shows g (pick b fresh q) (since xs)
+          → g p x ∷ shows g q xs
+          ≡ shows g p (pick b (x ∷ before xs) []) ++ shows g (pick (c || b) fresh p) (pick b (since xs) (x ∷ xs))
+      go true true e ih = ap (λ (l : List A). g p x ∷ l) ih
+      go true false e ih = ap (λ (l : List A). g p x ∷ l) ih
+      go false true e ih =
+          ap (λ (a : A). a ∷ shows g q xs) (same p fresh x e)
+          ∙ ap (λ (a : Parsed). g fresh x ∷ shows g (a .parser) xs) (forgets p fresh x e)
+      go false false e ih = refl
+
+-- the answers and states of calls are what `call` shows
+pub calls-are : (p : Parser) (xs : List (List ℕ)) → calls p xs ≡ shows call p xs
+unfolding calls shows
+calls-are p [] = refl
+calls-are p (x ∷ xs) = ap (λ (l : List Parsed). call p x ∷ l) (calls-are (call p x .parser) xs)
+
+-- demand 3's first sentence, for any calls: the answers and states before the latest cutter, then those of a fresh parser fed only the
+-- calls since it
+pub calls-cut : (p : Parser) (xs : List (List ℕ)) → calls p xs ≡ calls p (before xs) ++ calls (pick (anyCutter xs) fresh p) (since xs)
+calls-cut p xs =
+    calls-are p xs ∙ shows-cut call forgets p xs
+    ∙ ap₂ _++_ (sym (calls-are p (before xs))) (sym (calls-are (pick (anyCutter xs) fresh p) (since xs)))
+
 -- from any state of the right shape
 pub last-writer-from : (p : Parser) (xs : List (List ℕ)) (i : ℕ) → Sized p
     → kept (after p xs) i ≡ or (last (map (λ f. writes f i) (since xs))) (kept (pick (anyCutter xs) fresh p) i)
@@ -75,13 +132,18 @@ last-writer-from p (x ∷ xs) i s = go (anyCutter xs) refl (last-writer-from (ca
         ∙ ap (λ (z : ℤ). or (last (map (λ f. writes f i) xs)) z) (writes-one p x i s)
         ∙ sym (or-last (writes x i) (map (λ f. writes f i) xs) _))
 
+fresh-either : (b : Bool) → pick b fresh fresh ≡ fresh
+fresh-either true = refl
+fresh-either false = refl
+
 -- from a fresh parser: the last writer since the latest cutter, or else the starting value
 pub last-writer : (xs : List (List ℕ)) (i : ℕ)
     → kept (after fresh xs) i ≡ or (last (map (λ f. writes f i) (since xs))) (kept fresh i)
 last-writer xs i =
     last-writer-from fresh xs i sized-fresh
-    ∙ ap (λ (z : Parser). or (last (map (λ f. writes f i) (since xs))) (kept z i)) (same (anyCutter xs))
-  where
-    same : (b : Bool) → pick b fresh fresh ≡ fresh
-    same true = refl
-    same false = refl
+    ∙ ap (λ (z : Parser). or (last (map (λ f. writes f i) (since xs))) (kept z i)) (fresh-either (anyCutter xs))
+
+-- the same of a parser that was fresh at the start
+pub fresh-cut : (xs : List (List ℕ)) → calls fresh xs ≡ calls fresh (before xs) ++ calls fresh (since xs)
+fresh-cut xs =
+    calls-cut fresh xs ∙ ap (λ (z : Parser). calls fresh (before xs) ++ calls z (since xs)) (fresh-either (anyCutter xs))

@@ -7,32 +7,39 @@ use mathlib.Core.List.{List, map}
 use lib.IntN.{ℤ}
 use Rattle.vp8_records.specs.declared.Parser.{Parser}
 use Rattle.vp8_records.specs.declared.Parsed.{Parsed}
+use Rattle.vp8_records.specs.declared.Header.{Header}
 use Rattle.vp8_records.specs.Start.{fresh}
 use Rattle.rfc6386.specs.Decoder.{pick}
 use Rattle.rfc6386.specs.Runs.{or}
 use Rattle.rfc6386.specs.Frame.{Opened, shut, opened, chunk, beyond, empty, read, Said, refused, follows, body, inside, decode}
-use Rattle.rfc6386.specs.Call.{headerOf, finish, call, after}
+use Rattle.rfc6386.specs.Call.{finish, call, after}
 use Rattle.rfc6386_history.specs.Refusals.{keyOf, opens}
 use Rattle.rfc6386_history.specs.Kept.{kept}
 use Rattle.vp8_records.specs.Shape.{Sized}
 use Rattle.rfc6386_history.specs.History.{anyCutter, since, writes, last}
-use Rattle.rfc6386_history.specs.Past.{withProbs, Alike}
+use Rattle.rfc6386_history.specs.Past.{Blind, Alike}
 use Rattle.rfc6386_history.proofs.Refusals.{Opens, chunk-opens}
 use Rattle.rfc6386_history.proofs.Step.{forgets-body}
 use Rattle.rfc6386_history.proofs.History.{last-writer-from}
 
 alike : (s : Said) (p q : Parser) → Alike (finish s p) (finish s q)
-unfolding withProbs headerOf
-alike (refused o) p q = record { outcome = refl; header = refl }
-alike (follows k (beyond end n)) p q = record { outcome = refl; header = refl }
-alike (follows k empty) p q = record { outcome = refl; header = refl }
-alike (follows k (read c s none)) p q = record { outcome = refl; header = refl }
-alike (follows k (read c s (some ss))) p q = record { outcome = refl; header = refl }
+alike (refused o) p q = record { outcome = refl; header = λ part h. refl }
+alike (follows k (beyond end n)) p q = record { outcome = refl; header = λ part h. refl }
+alike (follows k empty) p q = record { outcome = refl; header = λ part h. refl }
+alike (follows k (read c s none)) p q = record { outcome = refl; header = λ part h. refl }
+alike (follows k (read c s (some ss))) p q = record { outcome = refl; header = λ part h. h k c s ss _ _ }
 
 -- whatever was kept, a frame's answer is the same but for those
 pub alone : (p q : Parser) (f : List ℕ) → Alike (call p f) (call q f)
 unfolding call
 alone p q f = alike (decode f) p q
+
+-- so the outcome is the same, and every part of the header in which the probabilities have no say
+pub alone-outcome : (p q : Parser) (f : List ℕ) → call p f .outcome ≡ call q f .outcome
+alone-outcome p q f = alone p q f .outcome
+
+pub alone-part : (p q : Parser) (f : List ℕ) {A : Type 0} (part : Header → A) → Blind part → part (call p f .header) ≡ part (call q f .header)
+alone-part p q f = alone p q f .header
 
 -- and for a key frame the whole header is the same
 pub key-alone : (p q : Parser) (f : List ℕ) → keyOf f ≡ true → call p f .header ≡ call q f .header

@@ -15,18 +15,17 @@ use Rattle.vp8_records.specs.declared.Parsed.{Parsed}
 use Rattle.vp8_records.specs.declared.Outcome.{Outcome}
 use Rattle.vp8_records.specs.declared.Outcome.the-variants.{Accepted, ChunkTooShort, InvalidStartCode, InvalidPartitionSize, EmptyArea, EndOfHeader, FrameTooLong}
 use Rattle.vp8_records.specs.Outcome.{numberOf}
-use Rattle.vp8_records.specs.Start.{fresh, blank}
+use Rattle.vp8_records.specs.Start.{blank}
 use Rattle.rfc6386.specs.Bytes.{le2, le3}
-use Rattle.rfc6386.specs.Decoder.{bits, start, pick}
-use Rattle.rfc6386.specs.Reads.{run}
-use Rattle.rfc6386.specs.Coded.{Coded, header}
-use Rattle.rfc6386.specs.Frame.{Chunk, tagged, Opened, shut, opened, keyChunk, chunk, Snapshot, codedSizes, sum, sizes, beyond, empty, read, headed, body, follows, inside, decode}
-use Rattle.rfc6386.specs.Call.{apply, cleared, answer, finish, call}
-use Rattle.rfc6386_history.specs.Refusals.{keyOf, rightCode, tooLong, tooShort, otherCode, chunkSize, area, firstSize, beyondEnd, isEmpty, coded, sizesBeyond, afterChunk, outcomeOf, left, headOf, opens, Exactly}
+use Rattle.rfc6386.specs.Decoder.{pick}
+use Rattle.rfc6386.specs.Coded.{Coded}
+use Rattle.rfc6386.specs.Frame.{Chunk, tagged, keyed, Opened, shut, opened, keyChunk, chunk, Snapshot, codedSizes, sum, sizes, beyond, empty, read, decoded, headed, body, follows, inside, decode}
+use Rattle.rfc6386.specs.Call.{apply, cleared, base, answer, finish, call}
+use Rattle.rfc6386_history.specs.Refusals.{keyOf, rightCode, tooLong, tooShort, otherCode, chunkSize, area, firstSize, beyondEnd, isEmpty, heldOf, coded, sizesBeyond, afterChunk, outcomeOf, baseOf, left, headOf, opens, Exactly}
 
 -- the answer a is the table's for the outcome o
-abbrev pub Told : Parsed → Outcome → Bool → Coded → Parser → Type 0
-Told a o key c p = a ≡ answer o (headOf o (a .header)) (left o key c p)
+abbrev pub Told : Parsed → Outcome → (Parser → Parser) → Coded → Parser → Type 0
+Told a o from c p = a ≡ answer o (headOf o (a .header)) (left o from c p)
 
 -- the definition's chunk by its tests: too long, under 3, key frame, under 6, right start code, under 10
 abbrev chunkBy : List ℕ → Bool → Bool → Bool → Bool → Bool → Bool → Opened
@@ -39,7 +38,7 @@ chunkBy f a b key d e g = elim a [
         | true ↦ shut ChunkTooShort
         | false ↦ elim e [
           | false ↦ shut (InvalidStartCode (le3 f 3))
-          | true ↦ elim g [ true ↦ shut ChunkTooShort | false ↦ opened (tagged (le3 f 0) true 10 (le2 f 6) (le2 f 8)) ]
+          | true ↦ elim g [ true ↦ shut ChunkTooShort | false ↦ opened (keyed f) ]
         ]
       ]
       | false ↦ opened (tagged (le3 f 0) false 3 0 0)
@@ -70,13 +69,13 @@ module _ (p : Parser) where
   told-read : (k : Chunk) (c : Coded) (s : Snapshot) (n : ℕ) (xs : List ℕ) (first : ℕ)
       → let from = first + 3 * (n - 1) in
       let beyond = ltb (length xs) from || ltb (length xs) (from + sum (codedSizes (n - 1) xs first)) in
-      Told (finish (follows k (read c s (sizes n xs first))) p) (pick beyond EndOfHeader Accepted) (k .key) c p
+      Told (finish (follows k (read c s (sizes n xs first))) p) (pick beyond EndOfHeader Accepted) (base k) c p
   unfolding sizes
   told-read k c s n xs first = go (ltb (length xs) _) (ltb (length xs) _) _
     where
       go : (a b : Bool) (ss : List ℕ)
           → Told (finish (follows k (read c s (elim a [ true ↦ none | false ↦ elim b [ true ↦ none | false ↦ some ss ] ]))) p)
-          (pick (a || b) EndOfHeader Accepted) (k .key) c p
+          (pick (a || b) EndOfHeader Accepted) (base k) c p
       go true b ss = refl
       go false true ss = refl
       go false false ss = refl
@@ -84,39 +83,41 @@ module _ (p : Parser) where
   -- what follows the chunk
   module _ (f : List ℕ) where
     told-after : (key : Bool) (w h : ℕ)
-        → let k = tagged (le3 f 0) key (chunkSize key) w h in Told (finish (follows k (body k f)) p) (afterChunk key f) key (coded key f) p
+        → let k = tagged (le3 f 0) key (chunkSize key) w h in
+        Told (finish (follows k (body k f)) p) (afterChunk key f) (base k) (coded key f) p
     unfolding body headed coded
-    told-after key w h = go (beyondEnd key f) (area key f)
+    told-after key w h = go (beyondEnd key f) (heldOf key f)
       where
         k : Chunk
         k = tagged (le3 f 0) key (chunkSize key) w h
 
         got : List ℕ → Coded
-        got xs = run (header key) (bits xs) (start xs) .got
+        got bytes = decoded key bytes .got
 
         beyondIn : List ℕ → Bool
-        beyondIn xs =
-            let n = 2 ^ got xs .log2parts in
+        beyondIn bytes =
+            let n = 2 ^ got bytes .log2parts in
             let from = firstSize f + 3 * (n - 1) in
-            ltb (length xs) from || ltb (length xs) (from + sum (codedSizes (n - 1) xs (firstSize f)))
+            ltb (length (area key f)) from || ltb (length (area key f)) (from + sum (codedSizes (n - 1) (area key f) (firstSize f)))
 
-        go : (a : Bool) (xs : List ℕ)
+        go : (a : Bool) (bytes : List ℕ)
             → Told
             (finish
             (follows k
             (elim a [
               | true ↦ beyond (chunkSize key + firstSize f) (length f)
-              | false ↦ elim xs [ [] ↦ empty | b ∷ bs ↦ headed k (b ∷ bs) (run (header key) (bits (b ∷ bs)) (start (b ∷ bs))) ]
+              | false ↦ elim bytes [ [] ↦ empty | b ∷ bs ↦ headed k (area key f) (b ∷ bs) (decoded key (b ∷ bs)) ]
             ]))
             p)
-            (pick a (InvalidPartitionSize (chunkSize key + firstSize f) (length f)) (pick (isEmpty xs) EmptyArea (pick (beyondIn xs) EndOfHeader Accepted)))
-            key (got xs) p
-        go true xs = refl
+            (pick a (InvalidPartitionSize (chunkSize key + firstSize f) (length f))
+            (pick (isEmpty bytes) EmptyArea (pick (beyondIn bytes) EndOfHeader Accepted)))
+            (base k) (got bytes) p
+        go true bytes = refl
         go false [] = refl
-        go false (b ∷ bs) = told-read k (got (b ∷ bs)) _ (2 ^ got (b ∷ bs) .log2parts) (b ∷ bs) (firstSize f)
+        go false (b ∷ bs) = told-read k (got (b ∷ bs)) _ (2 ^ got (b ∷ bs) .log2parts) (area key f) (firstSize f)
 
     -- every call
-    pub told : Told (call p f) (outcomeOf f) (keyOf f) (coded (keyOf f) f) p
+    pub told : Told (call p f) (outcomeOf f) (baseOf (keyOf f) f) (coded (keyOf f) f) p
     unfolding call decode chunk keyChunk outcomeOf
     told = go (tooLong f) (ltb (length f) 3) (keyOf f) (ltb (length f) 6) (rightCode f) (ltb (length f) 10)
       where
@@ -124,7 +125,7 @@ module _ (p : Parser) where
             → Told (finish (inside (chunkBy f a b key d e g) f) p)
             (pick a (FrameTooLong (length f))
             (pick (b || key && (d || e && g)) ChunkTooShort (pick (key && not d && not e) (InvalidStartCode (le3 f 3)) (afterChunk key f))))
-            key (coded key f) p
+            (baseOf key f) (coded key f) p
         go true b key d e g = refl
         go false true key d e g = refl
         go false false false d e g = told-after false 0 0
@@ -179,7 +180,7 @@ rows f false false false false false true = record { numbers = refl; carries = r
 rows f false false false false false false = record { numbers = refl; carries = refl; resetting = refl }
 
 rows-of : (f : List ℕ)
-    → Rows f (tooLong f) (tooShort f) (otherCode f) (beyondEnd (keyOf f) f) (isEmpty (area (keyOf f) f)) (sizesBeyond (keyOf f) f)
+    → Rows f (tooLong f) (tooShort f) (otherCode f) (beyondEnd (keyOf f) f) (isEmpty (heldOf (keyOf f) f)) (sizesBeyond (keyOf f) f)
 rows-of f = rows f _ _ _ _ _ _
 
 pub resets-opened : (f : List ℕ) → opens f && keyOf f ≡ resets (outcomeOf f) (keyOf f)
@@ -192,12 +193,12 @@ module _ (p : Parser) (f : List ℕ) where
   outcome-is = ap (λ (a : Parsed). a .outcome) (told p f)
 
   -- the column "State left"
-  pub left-is : call p f .parser ≡ left (outcomeOf f) (keyOf f) (coded (keyOf f) f) p
+  pub left-is : call p f .parser ≡ left (outcomeOf f) (baseOf (keyOf f) f) (coded (keyOf f) f) p
   left-is = ap (λ (a : Parsed). a .parser) (told p f)
 
   -- the outcome o with what the row of q leaves
   abbrev said : Outcome → Outcome → Parsed
-  said o q = answer o (headOf q (call p f .header)) (left q (keyOf f) (coded (keyOf f) f) p)
+  said o q = answer o (headOf q (call p f .header)) (left q (baseOf (keyOf f) f) (coded (keyOf f) f) p)
 
   row : (o : Outcome) → call p f .outcome ≡ o → call p f ≡ said (carrying f o) o
   unfolding outcomeOf
@@ -216,17 +217,17 @@ module _ (p : Parser) (f : List ℕ) where
   refused-2 code = row (InvalidStartCode code)
 
   pub refused-3 : (end n : ℕ) → call p f .outcome ≡ InvalidPartitionSize end n
-      → call p f ≡ answer (InvalidPartitionSize (chunkSize (keyOf f) + firstSize f) (length f)) blank (pick (keyOf f) fresh p)
+      → call p f ≡ answer (InvalidPartitionSize (chunkSize (keyOf f) + firstSize f) (length f)) blank (baseOf (keyOf f) f p)
   refused-3 end n = row (InvalidPartitionSize end n)
 
-  pub refused-4 : call p f .outcome ≡ EmptyArea → call p f ≡ answer EmptyArea blank (pick (keyOf f) fresh (cleared p))
+  pub refused-4 : call p f .outcome ≡ EmptyArea → call p f ≡ answer EmptyArea blank (baseOf (keyOf f) f (cleared p))
   refused-4 = row EmptyArea
 
-  pub refused-5 : call p f .outcome ≡ EndOfHeader → call p f ≡ answer EndOfHeader blank (apply (coded (keyOf f) f) (pick (keyOf f) fresh p))
+  pub refused-5 : call p f .outcome ≡ EndOfHeader → call p f ≡ answer EndOfHeader blank (apply (coded (keyOf f) f) (baseOf (keyOf f) f p))
   refused-5 = row EndOfHeader
 
   -- and what an accepted frame leaves
-  pub accepted-leaves : call p f .outcome ≡ Accepted → call p f .parser ≡ apply (coded (keyOf f) f) (pick (keyOf f) fresh p)
+  pub accepted-leaves : call p f .outcome ≡ Accepted → call p f .parser ≡ apply (coded (keyOf f) f) (baseOf (keyOf f) f p)
   accepted-leaves e = ap (λ (a : Parsed). a .parser) (row Accepted e)
 
   -- every refusal has the blank header

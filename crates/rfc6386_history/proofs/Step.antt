@@ -18,9 +18,9 @@ use Rattle.vp8_records.specs.Start.{fresh}
 use Rattle.rfc6386.specs.Decoder.{pick}
 use Rattle.rfc6386.specs.Runs.{or, over}
 use Rattle.rfc6386.specs.Coded.{Coded}
-use Rattle.rfc6386.specs.Frame.{Chunk, Opened, shut, opened, chunk, Body, beyond, empty, read, body, follows, inside, decode}
-use Rattle.rfc6386.specs.Call.{cleared, finish, call}
-use Rattle.rfc6386_history.specs.Refusals.{keyOf, rightCode, tooLong, opens, coded, outcomeOf, left}
+use Rattle.rfc6386.specs.Frame.{Chunk, keyed, Opened, shut, opened, chunk, Body, beyond, empty, read, body, follows, inside, decode}
+use Rattle.rfc6386.specs.Call.{apply, cleared, reset, finish, call}
+use Rattle.rfc6386_history.specs.Refusals.{keyOf, rightCode, tooLong, opens, coded, outcomeOf, baseOf, left}
 use Rattle.rfc6386_history.specs.Kept.{numbers, kept}
 use Rattle.vp8_records.specs.Shape.{Sized}
 use Rattle.rfc6386_history.specs.History.{cutter, wrote, writes}
@@ -68,26 +68,25 @@ forgets p q f h = go (chunk f) (opens f) (chunk-opens f) (sym (cutter-opens f) �
 cutter-resets : (f : List ℕ) → cutter f ≡ resets (outcomeOf f) (keyOf f)
 cutter-resets f = cutter-opens f ∙ resets-opened f
 
-sized-base : (key : Bool) (p : Parser) → Sized p → Sized (pick key fresh p)
-sized-base true p s = sized-fresh
-sized-base false p s = s
+sized-reset : (k : Chunk) → Sized (reset k)
+sized-reset k = sized-fresh
 
-sized-empty : (key : Bool) (p : Parser) → Sized p → Sized (pick key fresh (cleared p))
-sized-empty true p s = sized-fresh
-sized-empty false p s = sized-cleared p s
+sized-base : (key : Bool) (f : List ℕ) (p : Parser) → Sized p → Sized (baseOf key f p)
+sized-base true f p s = sized-reset (keyed f)
+sized-base false f p s = s
 
-sized-left : (o : Outcome) (key : Bool) (c : Coded) (p : Parser) → Sized p → Sized (left o key c p)
-sized-left (FrameTooLong n) key c p s = s
-sized-left ChunkTooShort key c p s = s
-sized-left (InvalidStartCode code) key c p s = s
-sized-left (InvalidPartitionSize end n) key c p s = sized-base key p s
-sized-left EmptyArea key c p s = sized-empty key p s
-sized-left EndOfHeader key c p s = sized-apply c (pick key fresh p) (sized-base key p s)
-sized-left Accepted key c p s = sized-apply c (pick key fresh p) (sized-base key p s)
+sized-left : (o : Outcome) (key : Bool) (f : List ℕ) (c : Coded) (p : Parser) → Sized p → Sized (left o (baseOf key f) c p)
+sized-left (FrameTooLong n) key f c p s = s
+sized-left ChunkTooShort key f c p s = s
+sized-left (InvalidStartCode code) key f c p s = s
+sized-left (InvalidPartitionSize end n) key f c p s = sized-base key f p s
+sized-left EmptyArea key f c p s = sized-base key f (cleared p) (sized-cleared p s)
+sized-left EndOfHeader key f c p s = sized-apply c (baseOf key f p) (sized-base key f p s)
+sized-left Accepted key f c p s = sized-apply c (baseOf key f p) (sized-base key f p s)
 
 -- a call keeps the shape
 pub sized-call : (p : Parser) (f : List ℕ) → Sized p → Sized (call p f .parser)
-sized-call p f s = rw (left-is p f) (sized-left (outcomeOf f) (keyOf f) (coded (keyOf f) f) p s)
+sized-call p f s = rw (left-is p f) (sized-left (outcomeOf f) (keyOf f) f (coded (keyOf f) f) p s)
 
 -- us, at most as many as the numbers of p, written over them give those of q
 record Moves (us : List (Option ℤ)) (p q : Parser) : Type 0 where
@@ -98,24 +97,26 @@ moves-none : (p : Parser) → Moves [] p p
 unfolding over
 moves-none p = record { fits = zero-le; is = refl }
 
-moves-empty : (key : Bool) (c : Coded) (p : Parser) → Moves (wrote EmptyArea key c) (pick key fresh p) (pick key fresh (cleared p))
+moves-empty : (key : Bool) (f : List ℕ) (c : Coded) (p : Parser) → Moves (wrote EmptyArea key c) (pick key fresh p) (baseOf key f (cleared p))
 unfolding over numbers joined cleared
-moves-empty true c p = moves-none fresh
-moves-empty false c p = record { fits = omega arith; is = refl }
+moves-empty true f c p = moves-none fresh
+moves-empty false f c p = record { fits = omega arith; is = refl }
 
-moves-all : (key : Bool) (c : Coded) (p : Parser) → Sized p → Moves (wrote Accepted key c) (pick key fresh p) (left Accepted key c p)
-moves-all key c p s =
-    let w = applied c (pick key fresh p) (sized-base key p s) in
+moves-all : (key : Bool) (f : List ℕ) (c : Coded) (p : Parser) → Sized p
+    → Moves (wrote Accepted key c) (pick key fresh p) (apply c (baseOf key f p))
+moves-all key f c p s =
+    let w = applied c (baseOf key f p) (sized-base key f p s) in
     record { fits = omega (arith, w .same); is = w .is }
 
-moves : (o : Outcome) (key : Bool) (c : Coded) (p : Parser) → Sized p → Moves (wrote o key c) (pick (resets o key) fresh p) (left o key c p)
-moves (FrameTooLong n) key c p s = moves-none p
-moves ChunkTooShort key c p s = moves-none p
-moves (InvalidStartCode code) key c p s = moves-none p
-moves (InvalidPartitionSize end n) key c p s = moves-none (pick key fresh p)
-moves EmptyArea key c p s = moves-empty key c p
-moves EndOfHeader key c p s = moves-all key c p s
-moves Accepted key c p s = moves-all key c p s
+moves : (o : Outcome) (key : Bool) (f : List ℕ) (c : Coded) (p : Parser) → Sized p
+    → Moves (wrote o key c) (pick (resets o key) fresh p) (left o (baseOf key f) c p)
+moves (FrameTooLong n) key f c p s = moves-none p
+moves ChunkTooShort key f c p s = moves-none p
+moves (InvalidStartCode code) key f c p s = moves-none p
+moves (InvalidPartitionSize end n) key f c p s = moves-none (baseOf key f p)
+moves EmptyArea key f c p s = moves-empty key f c p
+moves EndOfHeader key f c p s = moves-all key f c p s
+moves Accepted key f c p s = moves-all key f c p s
 
 -- a number after a call: what the frame writes to it, or else what the frame started from
 pub writes-one : (p : Parser) (f : List ℕ) (i : ℕ) → Sized p
@@ -124,6 +125,6 @@ unfolding kept writes
 writes-one p f i s =
     let us = wrote (outcomeOf f) (keyOf f) (coded (keyOf f) f) in
     let from = pick (resets (outcomeOf f) (keyOf f)) fresh p in
-    let m = moves (outcomeOf f) (keyOf f) (coded (keyOf f) f) p s in
+    let m = moves (outcomeOf f) (keyOf f) f (coded (keyOf f) f) p s in
     rw (left-is p f, cutter-resets f)
     (ap (λ (ns : List ℤ). getD ns i (pos 0)) (sym (m .is)) ∙ getD-over us (numbers from) i (pos 0) (m .fits))

@@ -1,7 +1,8 @@
--- Which frames cut off the past, and what a frame writes to each kept number: document 01, "What the parser keeps" and the refusal
--- table. It is written from those rules; proofs/History.antt shows that calls follow it.
+-- Which frames cut off the past, and what a frame writes to each kept number. It is written from the rules on what is kept and the
+-- refusal table (docs/RULES.md), and not from the definition of a call; proofs/History.antt shows that calls follow it.
 use Prim.Native.Nat.{ℕ, zero, suc}
-use mathlib.Core.Bool.{Bool, false, not, _&&_, _||_}
+use mathlib.Core.Path.{_≡_}
+use mathlib.Core.Bool.{Bool, true, false, not, _&&_, _||_}
 use mathlib.Core.Option.{Option, none, some, Option·map}
 use mathlib.Core.List.{List, [], _∷_, map}
 use lib.Dec.{ltb}
@@ -27,6 +28,16 @@ anyCutter (f ∷ fs) = cutter f || anyCutter fs
 unfoldable pub since : List (List ℕ) → List (List ℕ)
 since [] = []
 since (f ∷ fs) = pick (anyCutter fs) (since fs) (f ∷ fs)
+
+-- the frames before it; none where there is none
+unfoldable pub before : List (List ℕ) → List (List ℕ)
+before [] = []
+before (f ∷ fs) = pick (anyCutter fs) (f ∷ before fs) []
+
+-- a run of frames that begins with a cutter and has no other
+abbrev pub Latest : List (List ℕ) → Type 0
+Latest [] = ⊥
+Latest (f ∷ fs) = (cutter f ≡ true) × (anyCutter fs ≡ false)
 
 -- n of them; nothing is written to a group that is not coded
 unfoldable pub fit : {A : Type 0} → ℕ → List (Option A) → List (Option A)

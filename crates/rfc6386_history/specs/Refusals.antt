@@ -12,13 +12,12 @@ use Rattle.vp8_records.specs.declared.Header.{Header}
 use Rattle.vp8_records.specs.declared.Outcome.{Outcome}
 use Rattle.vp8_records.specs.declared.Outcome.the-variants.{Accepted, ChunkTooShort, InvalidStartCode, InvalidPartitionSize, EmptyArea, EndOfHeader, FrameTooLong}
 use Rattle.vp8_records.specs.Outcome.{numberOf}
-use Rattle.vp8_records.specs.Start.{fresh, blank}
+use Rattle.vp8_records.specs.Start.{blank}
 use Rattle.rfc6386.specs.Bytes.{le3}
-use Rattle.rfc6386.specs.Decoder.{bits, start, pick}
-use Rattle.rfc6386.specs.Reads.{run}
-use Rattle.rfc6386.specs.Coded.{Coded, header}
-use Rattle.rfc6386.specs.Frame.{codedSizes, sum}
-use Rattle.rfc6386.specs.Call.{apply, cleared, call}
+use Rattle.rfc6386.specs.Decoder.{pick}
+use Rattle.rfc6386.specs.Coded.{Coded}
+use Rattle.rfc6386.specs.Frame.{keyed, held, decoded, codedSizes, sum}
+use Rattle.rfc6386.specs.Call.{apply, cleared, reset, call}
 
 -- bit 0 of the tag is clear
 abbrev pub keyOf : List ℕ → Bool
@@ -54,14 +53,18 @@ firstSize f = le3 f 0 / 32
 abbrev pub beyondEnd : Bool → List ℕ → Bool
 beyondEnd key f = ltb (length f) (chunkSize key + firstSize f)
 
--- 4: area empty
+-- 4: nothing to read in the area
 abbrev pub isEmpty : List ℕ → Bool
 isEmpty [] = true
 isEmpty (x ∷ xs) = false
 
--- the coded fields, read over the area
+-- the bytes that the decoder runs over
+abbrev pub heldOf : Bool → List ℕ → List ℕ
+heldOf key f = held (firstSize f) (area key f)
+
+-- the coded fields, read over them
 unfoldable pub coded : Bool → List ℕ → Coded
-coded key f = run (header key) (bits (area key f)) (start (area key f)) .got
+coded key f = decoded key (heldOf key f) .got
 
 abbrev pub partitions : Bool → List ℕ → ℕ
 partitions key f = 2 ^ coded key f .log2parts
@@ -81,7 +84,7 @@ sizesBeyond key f = ltb (length (area key f)) (sizesEnd key f) || ltb (length (a
 abbrev pub afterChunk : Bool → List ℕ → Outcome
 afterChunk key f =
     pick (beyondEnd key f) (InvalidPartitionSize (chunkSize key + firstSize f) (length f))
-    (pick (isEmpty (area key f)) EmptyArea (pick (sizesBeyond key f) EndOfHeader Accepted))
+    (pick (isEmpty (heldOf key f)) EmptyArea (pick (sizesBeyond key f) EndOfHeader Accepted))
 
 -- all six, in order of checking
 unfoldable pub outcomeOf : List ℕ → Outcome
@@ -89,15 +92,19 @@ outcomeOf f =
     pick (tooLong f) (FrameTooLong (length f))
     (pick (tooShort f) ChunkTooShort (pick (otherCode f) (InvalidStartCode (le3 f 3)) (afterChunk (keyOf f) f)))
 
--- the state left, for a key frame or another with these coded fields; it is "as after the header" for 5 and for an accepted frame
-abbrev pub left : Outcome → Bool → Coded → Parser → Parser
-left (FrameTooLong n) key c p = p
-left ChunkTooShort key c p = p
-left (InvalidStartCode code) key c p = p
-left (InvalidPartitionSize end n) key c p = pick key fresh p
-left EmptyArea key c p = pick key fresh (cleared p)
-left EndOfHeader key c p = apply c (pick key fresh p)
-left Accepted key c p = apply c (pick key fresh p)
+-- the state that a key frame or another starts from, once its chunk is valid: reset if key, else unchanged
+abbrev pub baseOf : Bool → List ℕ → Parser → Parser
+baseOf key f p = pick key (reset (keyed f)) p
+
+-- the state left, by what the frame starts from and its coded fields; it is "as after the header" for 5 and for an accepted frame
+abbrev pub left : Outcome → (Parser → Parser) → Coded → Parser → Parser
+left (FrameTooLong n) base c p = p
+left ChunkTooShort base c p = p
+left (InvalidStartCode code) base c p = p
+left (InvalidPartitionSize end n) base c p = base p
+left EmptyArea base c p = base (cleared p)
+left EndOfHeader base c p = apply c (base p)
+left Accepted base c p = apply c (base p)
 
 -- a refusal has the blank header
 abbrev pub headOf : Outcome → Header → Header
@@ -119,8 +126,8 @@ pub record Exactly (p : Parser) (f : List ℕ) : Type 0 where
   pub one : (numberOf (call p f .outcome) ≡ 1) ↔ (not (tooLong f) && tooShort f ≡ true)
   pub two : (numberOf (call p f .outcome) ≡ 2) ↔ (not (tooLong f || tooShort f) && otherCode f ≡ true)
   pub three : (numberOf (call p f .outcome) ≡ 3) ↔ (opens f && beyondEnd (keyOf f) f ≡ true)
-  pub four : (numberOf (call p f .outcome) ≡ 4) ↔ (opens f && not (beyondEnd (keyOf f) f) && isEmpty (area (keyOf f) f) ≡ true)
+  pub four : (numberOf (call p f .outcome) ≡ 4) ↔ (opens f && not (beyondEnd (keyOf f) f) && isEmpty (heldOf (keyOf f) f) ≡ true)
   pub five : (numberOf (call p f .outcome) ≡ 5)
-      ↔ (opens f && not (beyondEnd (keyOf f) f || isEmpty (area (keyOf f) f)) && sizesBeyond (keyOf f) f ≡ true)
+      ↔ (opens f && not (beyondEnd (keyOf f) f || isEmpty (heldOf (keyOf f) f)) && sizesBeyond (keyOf f) f ≡ true)
   pub accepted : (numberOf (call p f .outcome) ≡ 0)
-      ↔ (opens f && not (beyondEnd (keyOf f) f || isEmpty (area (keyOf f) f) || sizesBeyond (keyOf f) f) ≡ true)
+      ↔ (opens f && not (beyondEnd (keyOf f) f || isEmpty (heldOf (keyOf f) f) || sizesBeyond (keyOf f) f) ≡ true)

@@ -25,7 +25,7 @@ fn ended(parser: Parser) -> Run {
 fn frame(parser: Parser, bytes: &[u8], out: &mut [u8]) -> Run {
     let parsed = vp8_parser::parse(parser, bytes);
     let end = vp8_show::dump::line(parsed, out);
-    let after = lines::byte(out, end, b'\n');
+    let after = text::byte(out, end, b'\n');
     let more = lines::show(out, after);
     let parser = parsed.parser;
     Run { parser, more }

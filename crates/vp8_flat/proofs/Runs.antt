@@ -1,5 +1,5 @@
--- Runs in a lent buffer: a loop that puts a run for each element of an array has put the runs of the first i after i turns, two runs
--- one after the other are one, and a run as long as the buffer fills it. Assumes nothing.
+-- Runs in a lent buffer: a loop that puts a run for each element of an array has put the runs of the first i after i turns, by `puts-append`;
+-- and a run as long as the buffer fills it, by `fits`.
 use Prim.Native.Nat.{ℕ, _+_, _≤_, _<_}
 use native.Mathlib.Omega.{arith}
 use native.Mathlib.Numerals.{add-one}
@@ -7,8 +7,8 @@ use mathlib.Core.Path.{_≡_, refl, ap, sym, _∙_}
 use mathlib.Core.List.{List, [], _∷_, _++_, append-assoc, append-nil, map}
 use lib.ListN.{length, getD, take}
 use lib.Seq.{take-suc, take-all}
-use Rattle.lines.specs.Text.{Text, text, put, puts}
-use Rattle.lines.proofs.Puts.{puts-append, puts-cons, puts-nil, fits}
+use Rattle.text.specs.Text.{Text, text, puts}
+use Rattle.text.proofs.Puts.{puts-append, puts-nil, fits}
 use Rattle.vp8_records.specs.Layout.{joined}
 
 joined-snoc : {A : Type 0} (f : A → List ℕ) (xs : List A) (x : A) → joined f (xs ++ (x ∷ [])) ≡ joined f xs ++ f x
@@ -49,18 +49,6 @@ turn {f} {out₀} {at} {xs} {i} z p h m s e =
 pub end : {A : Type 0} {f : A → List ℕ} {n : ℕ} {out₀ : List ℕ} {at : ℕ} {xs : List A} {out : List ℕ} {to i : ℕ}
     → Put f n out₀ at xs out to i → length xs ≡ n → n ≤ i → text out to ≡ puts (text out₀ at) (joined f xs)
 end {f} {out₀} {at} {xs} {i} p m h = p .same ∙ ap (λ (ys : _). puts (text out₀ at) (joined f ys)) (take-all i xs (omega arith))
-
--- one byte is a run
-pub one : (t : Text) (out : List ℕ) (to b : ℕ) → text out to ≡ put t b → text out to ≡ puts t (b ∷ [])
-one t out to b e = e ∙ sym (puts-cons t b [] ∙ puts-nil (put t b))
-
--- a run, then another
-pub then : (t u v : Text) (xs ys : List ℕ) → u ≡ puts t xs → v ≡ puts u ys → v ≡ puts t (xs ++ ys)
-then t u v xs ys e d = d ∙ ap (λ (w : Text). puts w ys) e ∙ sym (puts-append t xs ys)
-
--- the same run by other words
-pub worded : (t u : Text) (xs ys : List ℕ) → u ≡ puts t xs → xs ≡ ys → u ≡ puts t ys
-worded t u xs ys e d = e ∙ ap (puts t) d
 
 -- a run as long as the buffer is what the buffer holds
 pub full : (out₀ out : List ℕ) (n : ℕ) (xs : List ℕ) → length out₀ ≡ length xs → length out ≡ length xs

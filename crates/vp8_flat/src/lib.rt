@@ -16,7 +16,7 @@ ghost use mathlib.Core.Path.{_≡_};
 ghost use mathlib.Core.List.{map};
 ghost use mir.Val.{ofZ};
 ghost use mir.Syntax.{w8};
-ghost use Rattle.lines.specs.Text.{text, puts};
+ghost use Rattle.text.specs.Text.{text, puts};
 ghost use Rattle.vp8_records.specs.Layout.{flatTokens, flatContexts, flatBands, flatCoeffs, flatMvContext, flatMv};
 ghost use Rattle.vp8_flat.specs.Bytes.{bitOf, flatModes, segmentationBytes, adjustmentBytes, keptBytes};
 
@@ -43,7 +43,7 @@ fn put_signed(out: &mut [u8], at: usize, v: [i8; 4]) -> usize
     let mut to = at;
     let mut i = 0;
     while i < 4 {
-        to = lines::byte(out, to, byte_of(v[i]));
+        to = text::byte(out, to, byte_of(v[i]));
         i += 1;
     }
     to
@@ -53,7 +53,7 @@ fn put_tokens(out: &mut [u8], at: usize, tokens: Tokens) -> usize
     ensures { λ r. ⌜ text (now (out .exit)) r ≡ puts (text (now (out .entry)) at) (flatTokens tokens) ⌝ }
 {
     let v = tokens.v;
-    lines::bytes(out, at, &v)
+    text::bytes(out, at, &v)
 }
 
 fn put_contexts(out: &mut [u8], at: usize, contexts: Contexts) -> usize
@@ -96,7 +96,7 @@ fn put_context(out: &mut [u8], at: usize, context: MvContext) -> usize
     ensures { λ r. ⌜ text (now (out .exit)) r ≡ puts (text (now (out .entry)) at) (flatMvContext context) ⌝ }
 {
     let v = context.v;
-    lines::bytes(out, at, &v)
+    text::bytes(out, at, &v)
 }
 
 pub fn put_motion(out: &mut [u8], at: usize, motion: MvProbs) -> usize
@@ -116,8 +116,8 @@ pub fn put_modes(out: &mut [u8], at: usize, modes: ModeProbs) -> usize
 {
     let luma = modes.intra_16x16_prob;
     let chroma = modes.intra_chroma_prob;
-    let to = lines::bytes(out, at, &luma);
-    lines::bytes(out, to, &chroma)
+    let to = text::bytes(out, at, &luma);
+    text::bytes(out, to, &chroma)
 }
 
 fn put_segmentation(out: &mut [u8], at: usize, s: Segmentation) -> usize
@@ -132,10 +132,10 @@ fn put_segmentation(out: &mut [u8], at: usize, s: Segmentation) -> usize
     let quantizers = s.quantizer_update_value;
     let levels = s.lf_update_value;
     let probs = s.segment_prob;
-    let to = lines::bytes(out, at, &flags);
+    let to = text::bytes(out, at, &flags);
     let to = put_signed(out, to, quantizers);
     let to = put_signed(out, to, levels);
-    lines::bytes(out, to, &probs)
+    text::bytes(out, to, &probs)
 }
 
 fn put_adjustments(out: &mut [u8], at: usize, a: MbLfAdjustments) -> usize
@@ -147,7 +147,7 @@ fn put_adjustments(out: &mut [u8], at: usize, a: MbLfAdjustments) -> usize
     ];
     let frames = a.ref_frame_delta;
     let modes = a.mb_mode_delta;
-    let to = lines::bytes(out, at, &flags);
+    let to = text::bytes(out, at, &flags);
     let to = put_signed(out, to, frames);
     put_signed(out, to, modes)
 }

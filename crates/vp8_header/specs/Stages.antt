@@ -1,5 +1,5 @@
 -- The definition's header tree, cut in three, with what each stage makes of the old record. proofs/Whole.antt shows that the three are the definition's one.
-use Prim.Native.Nat.{ℕ, _/_, _%_, _^_}
+use Prim.Native.Nat.{ℕ}
 use mathlib.Core.Bool.{Bool, false, not}
 use mathlib.Core.Option.{Option}
 use mathlib.Core.List.{List}
@@ -8,15 +8,9 @@ use Rattle.vp8_records.specs.declared.Segmentation.{Segmentation}
 use Rattle.vp8_records.specs.declared.MbLfAdjustments.{MbLfAdjustments}
 use Rattle.vp8_records.specs.declared.MvProbs.{MvProbs}
 use Rattle.vp8_records.specs.declared.ModeProbs.{ModeProbs}
-use Rattle.vp8_records.specs.declared.Header.{Header}
-use Rattle.vp8_records.specs.Start.{keyModes}
-use Rattle.rfc6386.specs.Decoder.{pick}
-use Rattle.rfc6386.specs.Frame.{Snapshot}
 use Rattle.rfc6386.specs.Reads.{Rd, ret, _>>=_, flag, when, lit}
 use Rattle.rfc6386.specs.Coded.{Segments, Deltas, Refresh, Inter, Coded, segments, deltas, quant, refresh, coefficients, inter, noInter}
 use Rattle.rfc6386.specs.Call.{segmented, adjusted, coeffsOver, mvOver, modesOver, Probs}
-use lib.ListN.{replicate}
-use Rattle.vp8_header.specs.declared.DataChunk.{DataChunk}
 use Rattle.vp8_header.specs.declared.First as F
 use Rattle.vp8_header.specs.declared.RefreshFlags.{RefreshFlags}
 use Rattle.vp8_header.specs.declared.Second as S
@@ -133,51 +127,6 @@ wholeOf a b t = record {
   skips = t .skips;
   skipProb = t .skipProb;
   inter = t .inter;
-}
-
--- the header that code makes of the three stages, field by field
-unfoldable pub headerFrom : DataChunk → F.First → S.Second → T.Third → Snapshot → Header
-headerFrom k x y z s = record {
-  «key_frame» = k .«key_frame»;
-  «version» = k .version;
-  «show_frame» = k .«show_frame»;
-  «data_chunk_size» = k .«data_chunk_size»;
-  «first_part_size» = k .«first_part_size»;
-  «width» = k .«width_code» % 2 ^ 14;
-  «height» = k .«height_code» % 2 ^ 14;
-  «horiz_scale_code» = k .«width_code» / 2 ^ 14;
-  «vert_scale_code» = k .«height_code» / 2 ^ 14;
-  «color_space» = x .«color_space»;
-  «clamping_type» = x .«clamping_type»;
-  «filter_type» = x .«filter_type»;
-  «loop_filter_level» = x .«loop_filter_level»;
-  «sharpness_level» = x .«sharpness_level»;
-  «log2_nbr_of_dct_partitions» = y .«log2_nbr_of_dct_partitions»;
-  «partition_size» = replicate 8 0;
-  «quant_indices» = y .«quant_indices»;
-  «refresh_entropy_probs» = y .refresh .«refresh_entropy_probs»;
-  «refresh_last» = y .refresh .«refresh_last»;
-  «refresh_golden_frame» = y .refresh .«refresh_golden_frame»;
-  «refresh_alternate_frame» = y .refresh .«refresh_alternate_frame»;
-  «copy_buffer_to_golden» = y .refresh .«copy_buffer_to_golden»;
-  «copy_buffer_to_alternate» = y .refresh .«copy_buffer_to_alternate»;
-  «sign_bias_golden» = y .refresh .«sign_bias_golden»;
-  «sign_bias_alternate» = y .refresh .«sign_bias_alternate»;
-  «coeff_prob» = z .«coeff_prob»;
-  «mv_prob» = z .inter .«mv_prob»;
-  «mb_no_coeff_skip» = z .«mb_no_coeff_skip»;
-  «prob_skip_false» = z .«prob_skip_false»;
-  «prob_intra» = z .inter .«prob_intra»;
-  «prob_last» = z .inter .«prob_last»;
-  «prob_golden» = z .inter .«prob_golden»;
-  «mode_probs» = pick (k .«key_frame») keyModes (z .inter .«mode_probs»);
-  «bd_range» = s .range;
-  «bd_value» = s .value;
-  «bd_count» = s .count;
-  «header_size» = s .position;
-  «bools» = s .bools;
-  «mb_cols» = k .«width_code» % 2 ^ 14 / 16;
-  «mb_rows» = k .«height_code» % 2 ^ 14 / 16;
 }
 
 -- the probabilities in a third stage

@@ -15,11 +15,11 @@ ghost use Rattle.rfc6386.specs.Decoder.{bits, pick};
 ghost use Rattle.rfc6386.specs.Frame.{snapshot};
 ghost use Rattle.rfc6386.specs.Reads.{when, make};
 ghost use Rattle.rfc6386.specs.Coded.{refresh, inter, noInter};
-ghost use Rattle.rfc6386.specs.Call.{keeping, probsOf};
+ghost use Rattle.rfc6386.specs.Call.{keeping, probsOf, blocks};
 ghost use Rattle.bool_decoder.specs.Model.{Good, Ran};
 ghost use Rattle.bool_decoder.specs.Window.{stateOf, Over};
-ghost use Rattle.vp8_header.specs.Stages.{first, firstOf, refreshOf, second, secondOf, interOf, third, thirdOf, probsIn, headerFrom};
-ghost use Rattle.vp8_header.specs.Headed.{chunkOf, headedOf};
+ghost use Rattle.vp8_header.specs.Stages.{first, firstOf, refreshOf, second, secondOf, interOf, third, thirdOf, probsIn};
+ghost use Rattle.vp8_header.specs.Headed.{chunkOf, Heads, headedOf};
 
 // The uncompressed chunk. A size code holds 14 bits of size below 2 of scale.
 pub struct DataChunk {
@@ -325,6 +325,13 @@ fn kept(
     }
 }
 
+// Macroblock columns of a width, or rows of a height.
+fn blocks(n: u16) -> u16
+    ensures { λ r. ⌜ r ≡ blocks n ⌝ }
+{
+    n / 16
+}
+
 // The header of what the three stages read; its partition sizes are still to come.
 fn header_of(
     chunk: DataChunk,
@@ -335,10 +342,12 @@ fn header_of(
     dec: BoolDecoder,
 ) -> Header
     requires { ⌜ Over (now area) dec ⌝ }
-    ensures { λ r. ⌜ r ≡ headerFrom chunk first second third (snapshot (bits (now (area .entry))) (stateOf (now (area .entry)) dec)) ⌝ }
+    ensures { λ r. ⌜ Heads r chunk first second third (snapshot (bits (now (area .entry))) (stateOf (now (area .entry)) dec)) ⌝ }
 {
     let width = chunk.width_code % 16384;
     let height = chunk.height_code % 16384;
+    let horiz_scale_code = (chunk.width_code / 16384) as u8;
+    let vert_scale_code = (chunk.height_code / 16384) as u8;
     let inter = third.inter;
     let refresh = second.refresh;
     let quant_indices = second.quant_indices;
@@ -349,6 +358,8 @@ fn header_of(
     let header_size = dec.pos(area);
     let state = dec.snapshot(area);
     let bools = dec.bools();
+    let mb_cols = blocks(width);
+    let mb_rows = blocks(height);
     Header {
         key_frame: chunk.key_frame,
         version: chunk.version,
@@ -357,8 +368,8 @@ fn header_of(
         first_part_size: chunk.first_part_size,
         width,
         height,
-        horiz_scale_code: (chunk.width_code / 16384) as u8,
-        vert_scale_code: (chunk.height_code / 16384) as u8,
+        horiz_scale_code,
+        vert_scale_code,
         color_space: first.color_space,
         clamping_type: first.clamping_type,
         filter_type: first.filter_type,
@@ -388,8 +399,8 @@ fn header_of(
         bd_count: state.count,
         header_size,
         bools,
-        mb_cols: width / 16,
-        mb_rows: height / 16,
+        mb_cols,
+        mb_rows,
     }
 }
 

@@ -11,10 +11,9 @@ use Rattle.vp8_records.specs.declared.Parser.{Parser}
 use Rattle.vp8_records.specs.declared.Outcome.the-variants.{InvalidPartitionSize, EmptyArea}
 use Rattle.vp8_records.specs.Start.{fresh, blank}
 use Rattle.rfc6386.specs.Decoder.{start, bits, pick}
-use Rattle.rfc6386.specs.Reads.{run}
-use Rattle.rfc6386.specs.Coded.{header}
-use Rattle.rfc6386.specs.Frame.{Chunk, Body, follows, codedSizes, sum, sizes, headed, body}
-use Rattle.rfc6386.specs.Call.{cleared, answer, finish}
+use Rattle.rfc6386.specs.Frame.{Chunk, Body, follows, codedSizes, sum, sizes, decoded, headed, body}
+use Rattle.rfc6386.specs.Call.{cleared, reset, base, answer, finish}
+use Rattle.rfc6386.proofs.Accepts.{heldBy}
 use Rattle.rfc6386.proofs.Fills.{few-parts}
 use Rattle.vp8_parser.specs.declared.Sizes.{Sizes}
 use Rattle.vp8_parser.specs.Answers.{sizesOf, sizedOf}
@@ -45,27 +44,27 @@ missing none r e h = refl
 missing (some ss) r e h = absurd (let z : true ≡ false = sym (ap (λ (s : Sizes). s .ok) e) ∙ h in let y : _≡_ {A = ℕ} 0 1 = cc in omega arith)
 
 -- the header codes 1, 2, 4 or 8 partitions
-pub few : (key : Bool) (area : List ℕ) → run (header key) (bits area) (start area) .got .log2parts < 4
-few key area = few-parts key (bits area) (start area)
+pub few : (key : Bool) (bytes : List ℕ) → decoded key bytes .got .log2parts < 4
+few key bytes = few-parts key (bits bytes) (start bytes)
 
 module _ (k : Chunk) (p : Parser) (f : List ℕ) where
   pub ends-beyond : length f < k .size + k .first
-      → answer (InvalidPartitionSize (k .size + k .first) (length f)) blank (pick (k .key) fresh p) ≡ finish (follows k (body k f)) p
+      → answer (InvalidPartitionSize (k .size + k .first) (length f)) blank (base k p) ≡ finish (follows k (body k f)) p
   ends-beyond h = ap (λ (b : Body). finish (follows k b) p) (sym (body-beyond k f h))
 
   -- a reset state has no flag to clear
-  clears : (key : Bool) → cleared (pick key fresh p) ≡ pick key fresh (cleared p)
+  clears : (key : Bool) → cleared (pick key (reset k) p) ≡ pick key (reset k) (cleared p)
   unfolding cleared fresh
   clears true = refl
   clears false = refl
 
-  pub ends-empty : k .size + k .first ≤ length f → length (drop (k .size) f) ≡ 0
-      → answer EmptyArea blank (cleared (pick (k .key) fresh p)) ≡ finish (follows k (body k f)) p
+  pub ends-empty : k .size + k .first ≤ length f → length (heldBy k f) ≡ 0
+      → answer EmptyArea blank (cleared (base k p)) ≡ finish (follows k (body k f)) p
   ends-empty h e =
       ap (λ (q : Parser). answer EmptyArea blank q) (clears (k .key))
       ∙ ap (λ (b : Body). finish (follows k b) p) (sym (body-empty k f h e))
 
-  pub ends-read : k .size + k .first ≤ length f → (length (drop (k .size) f) ≡ 0 → ⊥)
-      → sizedOf k (drop (k .size) f) (pick (k .key) fresh p) ≡ finish (follows k (body k f)) p
+  pub ends-read : k .size + k .first ≤ length f → (length (heldBy k f) ≡ 0 → ⊥)
+      → sizedOf k (drop (k .size) f) (base k p) ≡ finish (follows k (body k f)) p
   unfolding sizedOf headed
   ends-read h n = ap (λ (b : Body). finish (follows k b) p) (sym (body-read k f h n))

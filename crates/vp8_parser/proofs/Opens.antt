@@ -10,10 +10,8 @@ use lib.ListN.{length, drop}
 use borrow.Author.Tests.{lt-ltb, le-ltb, le-leb, lt-leb, leb-false, eq-eqb, ne-eqb}
 use Rattle.vp8_records.specs.declared.Outcome.the-variants.{ChunkTooShort, InvalidStartCode, FrameTooLong}
 use Rattle.rfc6386.specs.Bytes.{le2, le3}
-use Rattle.rfc6386.specs.Decoder.{start, bits}
-use Rattle.rfc6386.specs.Reads.{run}
-use Rattle.rfc6386.specs.Coded.{header}
-use Rattle.rfc6386.specs.Frame.{Chunk, tagged, Opened, shut, opened, keyChunk, chunk, beyond, empty, headed, body}
+use Rattle.rfc6386.specs.Frame.{Chunk, tagged, Opened, shut, opened, keyChunk, chunk, Body, beyond, empty, decoded, headed, body}
+use Rattle.rfc6386.proofs.Accepts.{heldBy}
 
 -- a test whose answer is known
 pub yes-test : {A : Type 0} {b : Bool} (x y : A) → b ≡ true → elim b [ true ↦ x | false ↦ y ] ≡ x
@@ -76,22 +74,23 @@ module _ (k : Chunk) (f : List ℕ) where
   unfolding body
   body-beyond h = yes-test _ _ (lt-ltb _ _ h)
 
-  pub body-empty : k .size + k .first ≤ length f → length (drop (k .size) f) ≡ 0 → body k f ≡ empty
+  -- by what is held of the area
+  abbrev bodyBy : List ℕ → Body
+  bodyBy bytes = elim bytes [ [] ↦ empty | b ∷ bs ↦ headed k (drop (k .size) f) (b ∷ bs) (decoded (k .key) (b ∷ bs)) ]
+
+  pub body-empty : k .size + k .first ≤ length f → length (heldBy k f) ≡ 0 → body k f ≡ empty
   unfolding body
-  body-empty h e = no-test _ _ (le-ltb _ _ h) ∙ go (drop (k .size) f) e
+  body-empty h e = no-test _ _ (le-ltb _ _ h) ∙ go (heldBy k f) e
     where
-      go : (area : List ℕ) → length area ≡ 0
-          → elim area [ [] ↦ empty | b ∷ bs ↦ headed k (b ∷ bs) (run (header (k .key)) (bits (b ∷ bs)) (start (b ∷ bs))) ] ≡ empty
+      go : (bytes : List ℕ) → length bytes ≡ 0 → bodyBy bytes ≡ empty
       go [] e = refl
       go (b ∷ bs) e = absurd (omega (arith, e))
 
-  pub body-read : k .size + k .first ≤ length f → (length (drop (k .size) f) ≡ 0 → ⊥)
-      → body k f ≡ headed k (drop (k .size) f) (run (header (k .key)) (bits (drop (k .size) f)) (start (drop (k .size) f)))
+  pub body-read : k .size + k .first ≤ length f → (length (heldBy k f) ≡ 0 → ⊥)
+      → body k f ≡ headed k (drop (k .size) f) (heldBy k f) (decoded (k .key) (heldBy k f))
   unfolding body
-  body-read h n = no-test _ _ (le-ltb _ _ h) ∙ go (drop (k .size) f) n
+  body-read h n = no-test _ _ (le-ltb _ _ h) ∙ go (heldBy k f) n
     where
-      go : (area : List ℕ) → (length area ≡ 0 → ⊥)
-          → elim area [ [] ↦ empty | b ∷ bs ↦ headed k (b ∷ bs) (run (header (k .key)) (bits (b ∷ bs)) (start (b ∷ bs))) ]
-          ≡ headed k area (run (header (k .key)) (bits area) (start area))
+      go : (bytes : List ℕ) → (length bytes ≡ 0 → ⊥) → bodyBy bytes ≡ headed k (drop (k .size) f) bytes (decoded (k .key) bytes)
       go [] n = absurd (n refl)
       go (b ∷ bs) n = refl

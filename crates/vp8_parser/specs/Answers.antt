@@ -6,10 +6,9 @@ use mathlib.Core.List.{List, _++_}
 use lib.ListN.{take, replicate}
 use Rattle.vp8_records.specs.declared.Parser.{Parser}
 use Rattle.vp8_records.specs.declared.Parsed.{Parsed}
-use Rattle.rfc6386.specs.Decoder.{Out, start, bits}
-use Rattle.rfc6386.specs.Reads.{run}
-use Rattle.rfc6386.specs.Coded.{Coded, header}
-use Rattle.rfc6386.specs.Frame.{Chunk, Opened, shut, opened, snapshot, sum, sizes}
+use Rattle.rfc6386.specs.Decoder.{Out, bits}
+use Rattle.rfc6386.specs.Coded.{Coded}
+use Rattle.rfc6386.specs.Frame.{Chunk, Opened, shut, opened, snapshot, sum, sizes, held, decoded}
 use Rattle.rfc6386.specs.Call.{sized}
 use Rattle.vp8_header.specs.Headed.{chunkOf}
 use Rattle.vp8_parser.specs.declared.ChunkAnswer.{ChunkAnswer}
@@ -32,9 +31,12 @@ abbrev pub sizesOf : Option (List ℕ) → Sizes
 sizesOf none = record { ok = false; sizes = replicate 8 0 }
 sizesOf (some ss) = record { ok = true; sizes = padded ss }
 
--- the answer over an area that is not empty, by a run of the header's tree
-abbrev pub sizedBy : Chunk → List ℕ → Parser → Out Coded → Parsed
-sizedBy k area p o = sized (sizes (2 ^ o .got .log2parts) area (k .first)) k (o .got) (snapshot (bits area) (o .then)) p
+-- the answer by a run of the header's tree over the bytes that are held
+abbrev pub sizedBy : Chunk → List ℕ → List ℕ → Parser → Out Coded → Parsed
+sizedBy k area bytes p o = sized (sizes (2 ^ o .got .log2parts) area (k .first)) k (o .got) (snapshot (bits bytes) (o .then)) p
 
+-- over an area of which something is held
 unfoldable pub sizedOf : Chunk → List ℕ → Parser → Parsed
-sizedOf k area p = sizedBy k area p (run (header (k .key)) (bits area) (start area))
+sizedOf k area p =
+    let bytes = held (k .first) area in
+    sizedBy k area bytes p (decoded (k .key) bytes)

@@ -9,10 +9,9 @@ ghost use mathlib.Core.Bool.{true, false};
 ghost use mathlib.Core.Option.{none};
 ghost use Prim.Native.Nat.{_^_, _<_, _≤_};
 ghost use lib.ListN.{length};
-ghost use Rattle.vp8_records.specs.Start.{fresh, blank};
-ghost use Rattle.rfc6386.specs.Decoder.{pick};
+ghost use Rattle.vp8_records.specs.Start.{blank};
 ghost use Rattle.rfc6386.specs.Frame.{tagged, keyChunk, chunk, codedSizes, sizes, body, follows};
-ghost use Rattle.rfc6386.specs.Call.{cleared, answer, finish, call};
+ghost use Rattle.rfc6386.specs.Call.{cleared, base, answer, finish, call};
 ghost use Rattle.vp8_header.specs.Headed.{chunkOf};
 ghost use Rattle.vp8_parser.specs.Answers.{openedOf, listedOf, sizesOf, sizedOf};
 
@@ -155,10 +154,14 @@ fn refused(outcome: Outcome, parser: Parser) -> Parsed
 }
 
 // The state that a frame starts from: a key frame resets.
-fn base_of(key: bool, parser: Parser) -> Parser
-    ensures { λ r. ⌜ r ≡ pick key fresh parser ⌝ }
+fn base_of(chunk: DataChunk, parser: Parser) -> Parser
+    ensures { λ r. ⌜ r ≡ base (chunkOf chunk) parser ⌝ }
 {
-    if key { Parser::new() } else { parser }
+    if chunk.key_frame {
+        Parser::new()
+    } else {
+        parser
+    }
 }
 
 // What the failing first read of a header over an empty area leaves.
@@ -204,7 +207,7 @@ fn parse_body(parser: Parser, bytes: &[u8], chunk: DataChunk) -> Parsed
 {
     let at = chunk.data_chunk_size as usize;
     let end = at + chunk.first_part_size as usize;
-    let from = base_of(chunk.key_frame, parser);
+    let from = base_of(chunk, parser);
     if bytes.len() < end {
         return refused(Outcome::InvalidPartitionSize(end, bytes.len()), from);
     }

@@ -1,4 +1,5 @@
--- A loop that copies n numbers of a run, from a place on, into an array: what holds at its head, for every n. Assumes nothing.
+-- A loop that copies n numbers of a run, from a place on, into an array: what holds at its head, for every n. A turn
+-- stores the next number at the end of what agrees.
 use Prim.Native.Nat.{ℕ, _+_, _≤_, _<_}
 use native.Mathlib.Omega.{arith}
 use native.Mathlib.Numerals.{add-one}

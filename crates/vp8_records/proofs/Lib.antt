@@ -2,5 +2,7 @@
 pub mod Copy
 pub mod Places
 pub mod Parts
+pub mod Index
 pub mod Totals
 pub mod Lends
+pub mod Typed

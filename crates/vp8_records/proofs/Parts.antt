@@ -1,5 +1,5 @@
 -- Records of the right shape are a run of numbers laid out, and back from it: one law for an array of k parts of n numbers each, then
--- one line a level. Assumes nothing.
+-- one line a level.
 use Prim.Native.Nat.{ℕ, zero, suc, _+_, _*_, _≤_}
 use native.Mathlib.Nat.{zero-mul, suc-mul}
 use native.Mathlib.Omega.{arith}

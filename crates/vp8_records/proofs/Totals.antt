@@ -1,4 +1,4 @@
--- A sum of sizes, one more at a time. By induction on the sizes. Assumes nothing.
+-- A sum of sizes, one more at a time. By induction on the sizes.
 use Prim.Native.Nat.{ℕ, zero, suc, _+_}
 use native.Mathlib.Numerals.{add-one}
 use native.Mathlib.Omega.{arith}

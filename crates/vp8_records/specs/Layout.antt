@@ -1,7 +1,8 @@
--- The nested records and one flat run of their numbers: entry (i, j, k, l) stands at ((8i + j) · 3 + k) · 11 + l.
-use Prim.Native.Nat.{ℕ, zero, suc}
+-- The nested records and one flat run of their numbers: entry (i, j, k, l) of the coefficient probabilities stands at
+-- ((8i + j) · 3 + k) · 11 + l, and entry (i, j) of the motion probabilities at 19i + j (proofs/Index.antt).
+use Prim.Native.Nat.{ℕ, zero, suc, _+_, _*_}
 use mathlib.Core.List.{List, [], _∷_, _++_}
-use lib.ListN.{take, drop}
+use lib.ListN.{take, drop, getD}
 use Rattle.vp8_records.specs.declared.Tokens.{Tokens}
 use Rattle.vp8_records.specs.declared.Contexts.{Contexts}
 use Rattle.vp8_records.specs.declared.Bands.{Bands}
@@ -43,7 +44,15 @@ flatBands r = joined flatContexts (r .v)
 abbrev pub flatCoeffs : CoeffProbs → List ℕ
 flatCoeffs r = joined flatBands (r .v)
 
--- the motion probabilities: entry (i, j) stands at 19i + j
+-- entry (i, j, k, l), block type, band, context and place of the token tree (RFC 6386 section 13.3), and its number in the run
+abbrev pub coeffAt : CoeffProbs → ℕ → ℕ → ℕ → ℕ → ℕ
+coeffAt r i j k l =
+    getD (getD (getD (getD (r .v) i (record { v = [] }) .v) j (record { v = [] }) .v) k (record { v = [] }) .v) l 0
+
+abbrev pub coeffIndex : ℕ → ℕ → ℕ → ℕ → ℕ
+coeffIndex i j k l = ((8 * i + j) * 3 + k) * 11 + l
+
+-- the motion probabilities
 abbrev pub laidMvContext : List ℕ → MvContext
 laidMvContext xs = record { v = take 19 xs }
 
@@ -55,3 +64,10 @@ flatMvContext r = r .v
 
 abbrev pub flatMv : MvProbs → List ℕ
 flatMv r = joined flatMvContext (r .v)
+
+-- entry (i, j), component and place of its code (section 17.2), and its number in the run
+abbrev pub mvAt : MvProbs → ℕ → ℕ → ℕ
+mvAt r i j = getD (getD (r .v) i (record { v = [] }) .v) j 0
+
+abbrev pub mvIndex : ℕ → ℕ → ℕ
+mvIndex i j = 19 * i + j

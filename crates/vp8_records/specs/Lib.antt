@@ -1,6 +1,13 @@
--- What a reader must believe of the records: their numbers as runs, their starting values, an outcome's number, a frame's length by its header.
+-- What a reader must believe of the records.
+--   Layout: their numbers as flat runs, and where each entry stands.
+--   Start: their starting values, and the blank header.
+--   Outcome: an outcome's number, and the values that it carries.
+--   Shape: the lengths of a parser's arrays.
+--   Length: a frame's length by its header.
+--   Place: where a field lies.
 pub mod Layout
 pub mod Start
 pub mod Outcome
 pub mod Shape
 pub mod Length
+pub mod Place

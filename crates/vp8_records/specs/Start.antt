@@ -1,4 +1,4 @@
--- Starting values: what a fresh parser keeps, what a key frame takes, and the blank header of a refusal (document 01).
+-- Starting values (docs/RULES.md, what is kept): what a fresh parser keeps, what a key frame takes, and the blank header of a refusal.
 use mathlib.Core.Bool.{false}
 use lib.IntN.{pos}
 use lib.ListN.{replicate}

@@ -3,126 +3,203 @@ ghost use mathlib.Core.Path.{_≡_};
 ghost use Prim.Native.Nat.{_+_, _*_, _^_, _<_, _≤_};
 ghost use lib.ListN.{length, take, drop};
 ghost use Rattle.vp8_records.specs.Layout.{laidTokens, laidContexts, laidBands, laidCoeffs, laidMvContext, laidMv};
-ghost use Rattle.vp8_records.specs.Start.{freshSegmentation, freshAdjustments, freshCoeffs, freshMv, freshModes, keyModes, noQuant, noCoeffs, noMv, noModes, fresh, blank};
+ghost use Rattle.vp8_records.specs.Start.{freshSegmentation, freshAdjustments, freshCoeffs, freshMv, freshModes, keyModes, fresh};
+ghost use Rattle.vp8_records.specs.Start.{noQuant, noCoeffs, noMv, noModes, blank};
+ghost use Rattle.vp8_records.specs.Place.{further};
 ghost use Rattle.vp8_records.specs.Outcome.{numberOf};
 ghost use Rattle.vp8_records.specs.Length.{total, partitionsOf, lengthOf};
 
+// The quantizer indices (RFC 6386 section 9.6).
 pub struct QuantIndices {
+    // The base index, of the luma AC coefficients (9.6).
     pub y_ac_qi: u8,
+    // What the index of the luma DC coefficients has more (9.6).
     pub y_dc_delta: i8,
+    // What that of the second-order luma DC coefficients has more (9.6).
     pub y2_dc_delta: i8,
+    // What that of the second-order luma AC coefficients has more (9.6).
     pub y2_ac_delta: i8,
+    // What that of the chroma DC coefficients has more (9.6).
     pub uv_dc_delta: i8,
+    // What that of the chroma AC coefficients has more (9.6).
     pub uv_ac_delta: i8,
 }
 
+// The filter's adjustments by reference frame and mode (RFC 6386 section 9.4).
 pub struct MbLfAdjustments {
+    // Whether levels are adjusted at all (9.4).
     pub loop_filter_adj_enable: bool,
+    // Whether this frame codes new deltas (9.4).
     pub mode_ref_lf_delta_update: bool,
+    // A delta for each reference frame: intra, last, golden, alternate (9.4).
     pub ref_frame_delta: [i8; 4],
+    // A delta for each kind of mode: by blocks, zero, nearest or new motion, split (9.4).
     pub mb_mode_delta: [i8; 4],
 }
 
+// The adjustments by segment (RFC 6386 section 9.3).
 pub struct Segmentation {
+    // Whether macroblocks belong to segments (9.3).
     pub segmentation_enabled: bool,
+    // Whether this frame codes which segment each belongs to (9.3).
     pub update_mb_segmentation_map: bool,
+    // Whether this frame codes new values (9.3).
     pub update_segment_feature_data: bool,
+    // Whether the values stand for themselves, and are not added to the frame's (9.3).
     pub segment_feature_mode: bool,
+    // Each segment's quantizer (9.3).
     pub quantizer_update_value: [i8; 4],
+    // Each segment's filter level (9.3).
     pub lf_update_value: [i8; 4],
+    // The probabilities by which a macroblock's segment is coded (9.3).
     pub segment_prob: [u8; 3],
 }
 
+// The probabilities by which prediction modes are coded in inter frames (RFC 6386 sections 9.10 and 16.2).
 pub struct ModeProbs {
+    // Of the luma modes (16.2).
     pub intra_16x16_prob: [u8; 4],
+    // Of the chroma modes (16.2).
     pub intra_chroma_prob: [u8; 3],
 }
 
 // The eleven token probabilities of one context of one band of one block type.
 pub struct Tokens {
+    // One for each place of the token tree (13.2).
     pub v: [u8; 11],
 }
 
 // The three contexts of a band.
 pub struct Contexts {
+    // One for each context: what the neighbours left (13.3).
     pub v: [Tokens; 3],
 }
 
 // The eight bands of a block type.
 pub struct Bands {
+    // One for each band of coefficient positions (13.3).
     pub v: [Contexts; 8],
 }
 
 // The coefficient probabilities of the four block types.
 pub struct CoeffProbs {
+    // One for each block type (13.3).
     pub v: [Bands; 4],
 }
 
 // The nineteen probabilities of one component of a motion vector.
 pub struct MvContext {
+    // One for each place of a component's code (17.2).
     pub v: [u8; 19],
 }
 
 // The motion probabilities of both components.
 pub struct MvProbs {
+    // The row's, then the column's (17.2).
     pub v: [MvContext; 2],
 }
 
+// What a frame's chunk and header say (RFC 6386 sections 9 and 19.2), and what comes of it.
 pub struct Header {
+    // Whether it is a key frame (9.1).
     pub key_frame: bool,
+    // The version, which picks filters (9.1).
     pub version: u8,
+    // Whether it is meant to be shown (9.1).
     pub show_frame: bool,
+    // The bytes of the uncompressed chunk: 10 in a key frame, else 3 (9.1).
     pub data_chunk_size: u8,
+    // The bytes of the first partition (9.1).
     pub first_part_size: u32,
+    // The width in pixels, of a key frame (9.1).
     pub width: u16,
+    // The height in pixels, of a key frame (9.1).
     pub height: u16,
+    // How to scale up across, of a key frame (9.1).
     pub horiz_scale_code: u8,
+    // How to scale up downwards, of a key frame (9.1).
     pub vert_scale_code: u8,
+    // The color space, of a key frame (9.2).
     pub color_space: bool,
+    // Whether no pixel needs clamping, of a key frame (9.2).
     pub clamping_type: bool,
+    // Whether the simple filter is used (9.4, 15).
     pub filter_type: bool,
+    // The filter's level (9.4).
     pub loop_filter_level: u8,
+    // The filter's sharpness (9.4).
     pub sharpness_level: u8,
+    // The number of coefficient partitions, as a power of 2 (9.5).
     pub log2_nbr_of_dct_partitions: u8,
+    // The bytes of each of those, 0 where there are fewer (9.5).
     pub partition_size: [u32; 8],
+    // The quantizer indices (9.6).
     pub quant_indices: QuantIndices,
+    // Whether the probabilities of this frame are kept for later ones (9.11, 19.2).
     pub refresh_entropy_probs: bool,
+    // Whether the frame becomes the last frame (9.8).
     pub refresh_last: bool,
+    // Whether it becomes the golden frame (9.7).
     pub refresh_golden_frame: bool,
+    // Whether it becomes the alternate frame (9.7).
     pub refresh_alternate_frame: bool,
+    // Else what the golden frame becomes (9.7).
     pub copy_buffer_to_golden: u8,
+    // Else what the alternate frame becomes (9.7).
     pub copy_buffer_to_alternate: u8,
+    // Whether motion from the golden frame has its sign turned (9.7).
     pub sign_bias_golden: bool,
+    // Whether motion from the alternate frame has its sign turned (9.7).
     pub sign_bias_alternate: bool,
+    // The coefficient probabilities of this frame (9.9, 13.4).
     pub coeff_prob: CoeffProbs,
+    // The motion probabilities of this frame (9.10, 17.2).
     pub mv_prob: MvProbs,
+    // Whether macroblocks without coefficients are marked (9.11).
     pub mb_no_coeff_skip: bool,
+    // The probability that one is not (9.11).
     pub prob_skip_false: u8,
+    // The probability that a macroblock is intra coded (9.10).
     pub prob_intra: u8,
+    // The probability that it refers to the last frame (9.10).
     pub prob_last: u8,
+    // The probability that it refers to the golden frame, if not to the last (9.10).
     pub prob_golden: u8,
+    // The mode probabilities of this frame (9.10, 11.2, 16.2).
     pub mode_probs: ModeProbs,
+    // The decoder's range after the header (7.3).
     pub bd_range: u8,
+    // The whole part of its value (7.3).
     pub bd_value: u8,
+    // The bits of the next byte that it has not used (7.3).
     pub bd_count: u8,
+    // The bits of the area that it has used.
     pub header_size: u32,
-    // Beyond the Rust: the coded bools read, and the whole macroblocks across and down.
+    // Beyond the Rust: the coded bools of the header.
     pub bools: u32,
+    // Beyond the Rust: the whole macroblocks across.
     pub mb_cols: u16,
+    // Beyond the Rust: the whole macroblocks down.
     pub mb_rows: u16,
 }
 
 // What is kept from frame to frame: 1,126 numbers.
 pub struct Parser {
+    // The adjustments by segment (9.3): 15 numbers.
     pub segmentation: Segmentation,
+    // The filter's adjustments (9.4): 10.
     pub mb_lf_adjust: MbLfAdjustments,
+    // The coefficient probabilities (13.4): 1,056.
     pub coeff_prob: CoeffProbs,
+    // The motion probabilities (17.2): 38.
     pub mv_prob: MvProbs,
+    // The mode probabilities of inter frames (16.2): 7.
     pub mode_probs: ModeProbs,
 }
 
 // How a call went: a header, or one of six refusals with what it carries.
 pub enum Outcome {
+    // 0: a header was read, and the partitions lie within the frame.
     Accepted,
     // 1: the chunk is cut short.
     ChunkTooShort,
@@ -140,8 +217,11 @@ pub enum Outcome {
 
 // The answer of a call. The header holds arrays, so it stands beside the outcome.
 pub struct Parsed {
+    // How it went.
     pub outcome: Outcome,
+    // What the frame says; blank where it was refused.
     pub header: Header,
+    // What is kept for the next frame.
     pub parser: Parser,
 }
 
@@ -163,6 +243,7 @@ impl Outcome {
 }
 
 impl QuantIndices {
+    // All zeros: part of a refusal's header.
     pub fn blank() -> Self
         ensures { λ r. ⌜ r ≡ noQuant ⌝ }
     {
@@ -178,6 +259,7 @@ impl QuantIndices {
 }
 
 impl MbLfAdjustments {
+    // What a parser starts with: off, and no deltas (9.4).
     pub fn new() -> Self
         ensures { λ r. ⌜ r ≡ freshAdjustments ⌝ }
     {
@@ -191,6 +273,7 @@ impl MbLfAdjustments {
 }
 
 impl Segmentation {
+    // What a parser starts with: off, and all values 0 (9.3).
     pub fn new() -> Self
         ensures { λ r. ⌜ r ≡ freshSegmentation ⌝ }
     {
@@ -207,7 +290,7 @@ impl Segmentation {
 }
 
 impl ModeProbs {
-    // What a parser starts with.
+    // What a parser starts with (16.2).
     pub fn new() -> Self
         ensures { λ r. ⌜ r ≡ freshModes ⌝ }
     {
@@ -217,7 +300,7 @@ impl ModeProbs {
         }
     }
 
-    // What a key frame's header has.
+    // What a key frame's header has (11.2 and 11.4).
     pub fn key() -> Self
         ensures { λ r. ⌜ r ≡ keyModes ⌝ }
     {
@@ -227,6 +310,7 @@ impl ModeProbs {
         }
     }
 
+    // All zeros: part of a refusal's header.
     pub fn blank() -> Self
         ensures { λ r. ⌜ r ≡ noModes ⌝ }
     {
@@ -237,6 +321,7 @@ impl ModeProbs {
     }
 }
 
+// The eleven numbers from a place of a flat run on.
 fn tokens_at(flat: &[u8], at: usize) -> Tokens
     requires { ⌜ at + 11 ≤ length (now flat) ⌝ }
     ensures { λ r. ⌜ r ≡ laidTokens (drop at (now (flat .entry))) ⌝ }
@@ -250,6 +335,7 @@ fn tokens_at(flat: &[u8], at: usize) -> Tokens
     Tokens { v }
 }
 
+// The thirty-three from there on.
 fn contexts_at(flat: &[u8], at: usize) -> Contexts
     requires { ⌜ at + 33 ≤ length (now flat) ⌝ }
     ensures { λ r. ⌜ r ≡ laidContexts (drop at (now (flat .entry))) ⌝ }
@@ -260,6 +346,7 @@ fn contexts_at(flat: &[u8], at: usize) -> Contexts
     Contexts { v: [k0, k1, k2] }
 }
 
+// The 264 from there on.
 fn bands_at(flat: &[u8], at: usize) -> Bands
     requires { ⌜ at + 264 ≤ length (now flat) ⌝ }
     ensures { λ r. ⌜ r ≡ laidBands (drop at (now (flat .entry))) ⌝ }
@@ -278,7 +365,7 @@ fn bands_at(flat: &[u8], at: usize) -> Bands
 }
 
 impl CoeffProbs {
-    // The nested records out of one flat run.
+    // The nested records out of one flat run, in the order of the table (13.4).
     pub fn laid(flat: &[u8; 1056]) -> Self
         ensures { λ r. ⌜ r ≡ laidCoeffs (now (flat .entry)) ⌝ }
     {
@@ -291,7 +378,7 @@ impl CoeffProbs {
         }
     }
 
-    // What a parser starts with.
+    // What a parser starts with: the default table (13.5).
     pub fn new() -> Self
         ensures { λ r. ⌜ r ≡ freshCoeffs ⌝ }
     {
@@ -299,6 +386,7 @@ impl CoeffProbs {
         CoeffProbs::laid(&flat)
     }
 
+    // All zeros: part of a refusal's header.
     pub fn blank() -> Self
         ensures { λ r. ⌜ r ≡ noCoeffs ⌝ }
     {
@@ -309,6 +397,7 @@ impl CoeffProbs {
     }
 }
 
+// The nineteen numbers from a place of a flat run on.
 fn mv_context_at(flat: &[u8], at: usize) -> MvContext
     requires { ⌜ at + 19 ≤ length (now flat) ⌝ }
     ensures { λ r. ⌜ r ≡ laidMvContext (drop at (now (flat .entry))) ⌝ }
@@ -323,7 +412,7 @@ fn mv_context_at(flat: &[u8], at: usize) -> MvContext
 }
 
 impl MvProbs {
-    // The nested records out of one flat run.
+    // The nested records out of one flat run, the row's and the column's (17.2).
     pub fn laid(flat: &[u8; 38]) -> Self
         ensures { λ r. ⌜ r ≡ laidMv (now (flat .entry)) ⌝ }
     {
@@ -332,7 +421,7 @@ impl MvProbs {
         MvProbs { v: [i0, i1] }
     }
 
-    // What a parser starts with.
+    // What a parser starts with: the default table (17.2).
     pub fn new() -> Self
         ensures { λ r. ⌜ r ≡ freshMv ⌝ }
     {
@@ -340,6 +429,7 @@ impl MvProbs {
         MvProbs::laid(&flat)
     }
 
+    // All zeros: part of a refusal's header.
     pub fn blank() -> Self
         ensures { λ r. ⌜ r ≡ noMv ⌝ }
     {
@@ -352,6 +442,7 @@ impl Parser {
     // A frame of this many bytes or more is refused.
     pub const TOO_LONG: usize = 268435456;
 
+    // A parser that has seen no frame.
     pub fn new() -> Self
         ensures { λ r. ⌜ r ≡ fresh ⌝ }
     {
@@ -369,16 +460,16 @@ impl Parser {
         }
     }
 
-    // The kept segmentation, as a reference into the parser.
+    // The kept segmentation, as a reference into the parser: where the field lies, and what it holds (9.3).
     pub fn segmentation(&self) -> &Segmentation
-        ensures { λ r. ⌜ now r ≡ now (self .entry) .segmentation ⌝ }
+        ensures { λ r. ⌜ (now r ≡ now (self .entry) .segmentation) × (r .ptr ≡ further 0 (self .entry .ptr)) ⌝ }
     {
         &self.segmentation
     }
 
-    // The kept filter adjustments, likewise.
+    // The kept filter adjustments, likewise: the field lies 15 bytes on (9.4).
     pub fn mb_lf_adjust(&self) -> &MbLfAdjustments
-        ensures { λ r. ⌜ now r ≡ now (self .entry) .«mb_lf_adjust» ⌝ }
+        ensures { λ r. ⌜ (now r ≡ now (self .entry) .«mb_lf_adjust») × (r .ptr ≡ further 15 (self .entry .ptr)) ⌝ }
     {
         &self.mb_lf_adjust
     }
@@ -469,14 +560,14 @@ impl Header {
         }
     }
 
-    // How many partitions hold coefficients.
+    // How many partitions hold coefficients (9.5).
     pub fn num_dct_partitions(self) -> usize
         ensures { λ r. ⌜ r ≡ partitionsOf self ⌝ }
     {
         1usize << (self.log2_nbr_of_dct_partitions % 64)
     }
 
-    // The length of the whole frame: chunk, first partition, size bytes, and each partition.
+    // The length of the whole frame: chunk, first partition, size bytes, and each partition (9.5).
     pub fn frame_len(self) -> usize
         ensures { λ r. ⌜ r ≡ lengthOf self ⌝ }
     {

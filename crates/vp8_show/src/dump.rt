@@ -32,8 +32,8 @@ fn flags(h: Header, out: &mut [u8], at: usize) -> usize {
 }
 
 fn named(out: &mut [u8], at: usize, name: &[u8], bytes: &[u8]) -> usize {
-    let to = lines::bytes(out, at, name);
-    lines::hex(out, to, bytes)
+    let to = text::bytes(out, at, name);
+    text::hex(out, to, bytes)
 }
 
 fn probabilities(h: Header, out: &mut [u8], at: usize) -> usize {
@@ -49,7 +49,7 @@ fn probabilities(h: Header, out: &mut [u8], at: usize) -> usize {
 }
 
 fn accepted(h: Header, out: &mut [u8], at: usize) -> usize {
-    let to = lines::bytes(out, at, b"ok");
+    let to = text::bytes(out, at, b"ok");
     let to = shape(h, out, to);
     let to = flags(h, out, to);
     let to = probabilities(h, out, to);

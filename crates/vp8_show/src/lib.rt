@@ -27,7 +27,7 @@ fn label(out: &mut [u8], at: usize, labels: &[u8], from: usize) -> Labelled {
                 from: i + 1,
             };
         }
-        to = lines::byte(out, to, labels[i]);
+        to = text::byte(out, to, labels[i]);
         i += 1;
     }
     Labelled { at: to, from: i }
@@ -41,7 +41,7 @@ fn numbers(out: &mut [u8], at: usize, labels: &[u8], values: &[u32]) -> usize {
     while i < values.len() {
         let told = label(out, to, labels, from);
         from = told.from;
-        to = lines::decimal(out, told.at, wide(values[i]));
+        to = text::decimal(out, told.at, wide(values[i]));
         i += 1;
     }
     to
@@ -56,17 +56,17 @@ fn refused(
     end: &[u8],
     length: &[u8],
 ) -> usize {
-    let to = lines::bytes(out, 0, word);
-    let to = lines::decimal(out, to, refusal.number as u64);
+    let to = text::bytes(out, 0, word);
+    let to = text::decimal(out, to, refusal.number as u64);
     if refusal.number == 2 {
-        let to = lines::bytes(out, to, code);
-        return lines::decimal(out, to, refusal.a);
+        let to = text::bytes(out, to, code);
+        return text::decimal(out, to, refusal.a);
     }
     if refusal.number == 3 {
-        let to = lines::bytes(out, to, end);
-        let to = lines::decimal(out, to, refusal.a);
-        let to = lines::bytes(out, to, length);
-        return lines::decimal(out, to, refusal.b);
+        let to = text::bytes(out, to, end);
+        let to = text::decimal(out, to, refusal.a);
+        let to = text::bytes(out, to, length);
+        return text::decimal(out, to, refusal.b);
     }
     to
 }

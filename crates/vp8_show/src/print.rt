@@ -8,13 +8,13 @@ use vp8_records::Parsed;
 
 // One line of a partition.
 fn part(out: &mut [u8], at: usize, index: u64, start: u64, length: u64) -> usize {
-    let to = lines::bytes(out, at, b"part ");
-    let to = lines::decimal(out, to, index);
-    let to = lines::bytes(out, to, b" start ");
-    let to = lines::decimal(out, to, start);
-    let to = lines::bytes(out, to, b" length ");
-    let to = lines::decimal(out, to, length);
-    lines::byte(out, to, b'\n')
+    let to = text::bytes(out, at, b"part ");
+    let to = text::decimal(out, to, index);
+    let to = text::bytes(out, to, b" start ");
+    let to = text::decimal(out, to, start);
+    let to = text::bytes(out, to, b" length ");
+    let to = text::decimal(out, to, length);
+    text::byte(out, to, b'\n')
 }
 
 // Each partition begins where the one before it ends.
@@ -63,7 +63,7 @@ fn accepted(h: Header, out: &mut [u8]) -> usize {
         b"accepted key | version | show | chunk | first | size |x| parts | bools |",
         &values,
     );
-    let to = lines::byte(out, to, b'\n');
+    let to = text::byte(out, to, b'\n');
     parts(out, to, sizes, index(s[14]), first_start(h))
 }
 
@@ -76,5 +76,5 @@ pub fn answer(parsed: Parsed, out: &mut [u8]) -> usize {
         return accepted(header, out);
     }
     let to = refused(out, refusal, b"refused ", b" code ", b" end ", b" length ");
-    lines::byte(out, to, b'\n')
+    text::byte(out, to, b'\n')
 }

@@ -81,7 +81,7 @@ pub fn call(p: &mut Parser, bytes: &[u8]) -> Answer {
         Err(ParseFrameError::InvalidPartitionSize(end, length)) => refused(3, end, length),
         Err(ParseFrameError::ParseFrameHeader(BoolDecoderError::EndOfInput)) => refused(4, 0, 0),
         Err(ParseFrameError::ComputePartitionSizes(ComputePartitionSizesError::EndOfHeader)) => refused(5, 0, 0),
-        // Document 01 has no number for the rest, since they cannot arise.
+        // The rules have no number for the rest, since they cannot arise.
         Err(other) => panic!("an error that cannot arise: {other}"),
     };
     out.kept = kept(p);

@@ -16,35 +16,10 @@ pub type Stream = Vec<Frame>;
 /// The longest frame that is written.
 pub const LONGEST: usize = 65_536;
 
-/// All recordings of a folder, in the order of their names.
-pub fn streams(folder: &Path) -> Result<Vec<(String, Stream)>, String> {
-    let mut names: Vec<_> = std::fs::read_dir(folder)
-        .map_err(|why| format!("{}: {why}", folder.display()))?
-        .filter_map(|e| e.ok().map(|e| e.path()))
-        .filter(|p| p.extension().is_some_and(|e| e == "ivf"))
-        .collect();
-    names.sort();
-    if names.is_empty() {
-        return Err(format!("{}: no recordings", folder.display()));
-    }
-    let mut out = Vec::new();
-    for path in names {
-        let bytes = std::fs::read(&path).map_err(|why| format!("{}: {why}", path.display()))?;
-        let (mut at, mut frames) = (32, Vec::new());
-        while at + 12 <= bytes.len() {
-            let size = u32::from_le_bytes(bytes[at..at + 4].try_into().expect("four bytes")) as usize;
-            at += 12;
-            let end = (at + size).min(bytes.len());
-            // A frame that the dump would not take is left out.
-            if size <= LONGEST {
-                frames.push(bytes[at..end].to_vec());
-            }
-            at = end;
-        }
-        let name = path.file_name().map_or(String::new(), |n| n.to_string_lossy().into_owned());
-        out.push((name, frames));
-    }
-    Ok(out)
+/// The frames of all recordings of a folder; a frame that the dump would not take is left out.
+pub fn streams(folder: &Path) -> Result<Vec<Stream>, String> {
+    let taken = |frames: Vec<Frame>| frames.into_iter().filter(|f| f.len() <= LONGEST).collect();
+    Ok(crate::ivf::folder(folder)?.into_iter().map(|r| taken(r.frames)).collect())
 }
 
 /// A real frame with at most `keep` bytes of its last partition; the rest of it has no say in the header.
@@ -318,7 +293,7 @@ pub fn signs(rng: &mut Rng, turn: usize) -> Frame {
 }
 
 /// One drawn sequence of 1 to 8 frames.
-pub fn sequence(rng: &mut Rng, streams: &[(String, Stream)]) -> Vec<Frame> {
+pub fn sequence(rng: &mut Rng, streams: &[Stream]) -> Vec<Frame> {
     let mut out = Vec::new();
     let frames = rng.range(1, 8);
     let kind = rng.below(if streams.is_empty() { 10 } else { 13 });
@@ -388,7 +363,7 @@ pub fn sequence(rng: &mut Rng, streams: &[(String, Stream)]) -> Vec<Frame> {
                 rng.bytes(length)
             }
             _ => {
-                let (_, stream) = &streams[rng.below(streams.len())];
+                let stream = &streams[rng.below(streams.len())];
                 // A run from the start, since the first frame is a key frame.
                 let at = if out.is_empty() { 0 } else { rng.below(stream.len()) };
                 let keep = rng.pick(&[0, 1, 20, LONGEST]);

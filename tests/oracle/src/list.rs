@@ -9,7 +9,7 @@ use crate::rules::{self, Rules};
 use crate::spec::Spec;
 use crate::stats::{Scripts, Stats};
 
-/// A frame with its case number in document 01 (0: none).
+/// A frame with its number among the worked cases of docs/RULES.md (0: none).
 pub type Item = (u8, Frame);
 
 /// The list's sequences, and with which sequence each part of it begins.
@@ -18,14 +18,14 @@ pub struct Fixed {
     pub parts: Vec<(usize, &'static str)>,
 }
 
-/// K of document 01: start code and 176 by 144.
+/// K of the worked cases: start code and 176 by 144.
 const K: [u8; 7] = [0x9d, 0x01, 0x2a, 0xb0, 0x00, 0x90, 0x00];
 
 fn with_k(front: [u8; 3], back: &[u8]) -> Frame {
     [&front[..], &K, back].concat()
 }
 
-/// The sequences that document 01 lists, and the one it names among the slips.
+/// The worked cases, and the one that is named among the slips beside them.
 fn cases() -> Vec<Vec<Item>> {
     let case9 = vec![0x51, 0, 0, 0, 0x04, 0, 0];
     let case11 = with_k([0x70, 0, 0], &[0x30, 0x80, 0, 0]);
@@ -47,7 +47,7 @@ fn cases() -> Vec<Vec<Item>> {
     ]
 }
 
-/// Document 01's outcome of a case, word for word from its table.
+/// The outcome of a worked case, from the table of docs/RULES.md.
 fn as_listed(case: u8, a: &Answer) -> bool {
     let shows = |want: &[(&str, i64)]| a.refusal == 0 && want.iter().all(|(name, v)| a.get(name) == *v);
     match case {
@@ -66,7 +66,7 @@ fn as_listed(case: u8, a: &Answer) -> bool {
     }
 }
 
-/// Document 01's outcome of a case of the bare decoder.
+/// The outcome of a worked case of the bare decoder.
 fn line_listed(case: u8) -> Option<&'static str> {
     match case {
         13 => Some("1,@1 | 254 0 7 1"),
@@ -99,10 +99,10 @@ fn accepted(rng: &mut Rng, draw: impl Fn(&mut Rng) -> Frame) -> Frame {
 }
 
 /// All sequences of the fixed list.
-pub fn sequences(streams: &[(String, Stream)]) -> Fixed {
+pub fn sequences(streams: &[Stream]) -> Fixed {
     let rng = &mut Rng::new(0x5111_b200);
     let mut out = cases();
-    let mut parts = vec![(1, "document 01's cases, and case 9 after case 11")];
+    let mut parts = vec![(1, "the worked cases, and case 9 after case 11")];
     let plain = |frames: Vec<Frame>| frames.into_iter().map(|f| (0, f)).collect::<Vec<Item>>();
     let inter = |rng: &mut Rng| {
         let s = Spec { seg: false, adj: false, log2: 0, ..gen::drawn(rng, false, 0) };
@@ -323,7 +323,7 @@ pub fn sequences(streams: &[(String, Stream)]) -> Fixed {
 
     // Real frames, most with their last partition cut, and damaged copies of them.
     parts.push((out.len() + 1, "real frames and damaged copies"));
-    for (i, (_, stream)) in streams.iter().enumerate() {
+    for (i, stream) in streams.iter().enumerate() {
         let mut frames: Vec<Frame> = Vec::new();
         for f in stream.iter() {
             let cut = gen::shortened(f, 8);
@@ -357,7 +357,7 @@ pub fn sequences(streams: &[(String, Stream)]) -> Fixed {
         }
     }
     // A few whole ones.
-    for (_, stream) in streams.iter().filter(|(_, s)| s.iter().take(2).all(|f| (900..4000).contains(&f.len()))).take(3) {
+    for stream in streams.iter().filter(|s| s.iter().take(2).all(|f| (900..4000).contains(&f.len()))).take(3) {
         out.push(plain(stream.iter().take(2).cloned().collect()));
     }
     // A mixture as the generator makes it.
@@ -380,7 +380,7 @@ fn patch(out: &mut Vec<u8>, old: &[u8], new: &[u8]) {
     }
 }
 
-/// The bytes of the list of frames, and what they reach. Every answer is held against document 01's rules.
+/// The bytes of the list of frames, and what they reach. Every answer is held against the rules.
 pub fn frames(sequences: &[Vec<Item>]) -> (Vec<u8>, Stats) {
     let fresh = Engine::new().kept();
     assert_eq!(fresh.len(), KEPT);
@@ -397,7 +397,7 @@ pub fn frames(sequences: &[Vec<Item>]) -> (Vec<u8>, Stats) {
             total += 1;
             let answer = engine.call(frame);
             agree(&answer, &rules.call(frame), frame);
-            assert!(as_listed(*case, &answer), "case {case} is not as document 01 lists it");
+            assert!(as_listed(*case, &answer), "case {case} is not as docs/RULES.md lists it");
             stats.frame(*case, frame, &kept, &fresh, &answer);
             out.extend([2, *case]);
             out.extend((frame.len() as u32).to_le_bytes());
@@ -423,15 +423,15 @@ pub fn frames(sequences: &[Vec<Item>]) -> (Vec<u8>, Stats) {
     (out, stats)
 }
 
-/// Stops where the Rust and document 01 part.
+/// Stops where the Rust and the rules part.
 pub fn agree(rust: &Answer, rules: &Answer, frame: &[u8]) {
     if rust != rules {
-        eprintln!("the Rust and document 01 part on the frame {frame:02x?}");
+        eprintln!("the Rust and the rules part on the frame {frame:02x?}");
         std::process::exit(1);
     }
 }
 
-/// All scripts of the fixed list, each with its case number in document 01 (0: none).
+/// All scripts of the fixed list, each with its number among the worked cases (0: none).
 pub fn scripts() -> Vec<(u8, Vec<u8>, Vec<Read>)> {
     let rng = &mut Rng::new(0x5111_b201);
     let mut out = vec![
@@ -519,7 +519,7 @@ pub fn bools(scripts: &[(u8, Vec<u8>, Vec<Read>)]) -> (Vec<u8>, Scripts) {
     let mut stats = Scripts::default();
     for (case, area, reads) in scripts {
         let line = checked(area, reads, &mut stats);
-        assert!(line_listed(*case).is_none_or(|l| l == line), "case {case} is not as document 01 lists it");
+        assert!(line_listed(*case).is_none_or(|l| l == line), "case {case} is not as docs/RULES.md lists it");
         out.extend([2, *case]);
         out.extend(script_record(area, reads));
         out.extend(u16::try_from(line.len()).expect("a short line").to_le_bytes());
@@ -530,13 +530,13 @@ pub fn bools(scripts: &[(u8, Vec<u8>, Vec<Read>)]) -> (Vec<u8>, Scripts) {
     (out, stats)
 }
 
-/// The Rust's line; stops where it is not that of document 01.
+/// The Rust's line; stops where it is not that of the rules.
 pub fn checked(area: &[u8], reads: &[Read], stats: &mut Scripts) -> String {
     let line = bare::line(area, reads);
     stats.script(area, reads, &line);
     let rules = rules::line(area, reads, |d, read| stats.read(d, read, area));
     if line != rules {
-        eprintln!("the Rust and document 01 part on a script over {area:02x?}: {line} / {rules}");
+        eprintln!("the Rust and the rules part on a script over {area:02x?}: {line} / {rules}");
         std::process::exit(1);
     }
     line

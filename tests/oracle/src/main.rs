@@ -24,6 +24,7 @@ mod bare;
 mod encode;
 mod engine;
 mod gen;
+mod ivf;
 mod list;
 mod replay;
 mod rng;
@@ -42,9 +43,10 @@ use std::path::PathBuf;
 const USAGE: &str = "usage: tests/oracle/run COMMAND
   dump                       answers to frame records on standard input, one line a frame
   bools                      answers to scripts on standard input, one line a script
-  check                      holds the Rust against document 01 on frame records on standard input
+  check                      holds the Rust against the rules on frame records on standard input
   gen frames --seed S --count N [--streams DIR]   writes frame records
   gen bools --seed S --count N                    writes scripts
+  records [FILE..]           writes the frames of recordings as frame records (all recordings where none is named)
   list                       writes the fixed list of frames (needs the recordings)
   scripts                    writes the fixed list of scripts
   stats                      what both fixed lists reach (needs the recordings)
@@ -159,7 +161,7 @@ fn check() {
             Record::End(Some(why)) => stop(1, why),
         }
     }
-    println!("{frames} frames, all as document 01 says");
+    println!("{frames} frames, all as docs/RULES.md says");
 }
 
 fn reached() {
@@ -248,10 +250,38 @@ fn gen_bools(arguments: &[String]) {
     }
 }
 
+/// The folder of the recordings.
+fn folder() -> PathBuf {
+    let named = std::env::var("SILLBROOK_STREAMS").unwrap_or_else(|_| stop(2, "SILLBROOK_STREAMS is not set; call tests/oracle/run"));
+    PathBuf::from(named)
+}
+
+/// The frames of recordings as records, each recording over a fresh parser; says how many are too long for a record.
+fn records(files: &[String]) {
+    let all = match files {
+        [] => ivf::folder(&folder()),
+        _ => files.iter().map(|f| ivf::read(&PathBuf::from(f))).collect(),
+    };
+    let mut skipped = 0;
+    for recording in all.unwrap_or_else(|why| stop(2, &why)) {
+        let mut out = vec![0xff; 4];
+        for f in recording.frames {
+            if f.len() > gen::LONGEST {
+                eprintln!("{}: a frame of {} bytes is left out", recording.path.display(), f.len());
+                skipped += 1;
+                continue;
+            }
+            out.extend((f.len() as u32).to_le_bytes());
+            out.extend(f);
+        }
+        emit(&out);
+    }
+    eprintln!("recordings: {skipped} frames above {} bytes skipped", gen::LONGEST);
+}
+
 /// The fixed list of frames, some of which come from the recordings.
 fn fixed_list() -> list::Fixed {
-    let folder = std::env::var("SILLBROOK_STREAMS").unwrap_or_else(|_| stop(2, "SILLBROOK_STREAMS is not set; call tests/oracle/run"));
-    let streams = gen::streams(&PathBuf::from(folder)).unwrap_or_else(|why| stop(2, &format!("no recordings: {why}")));
+    let streams = gen::streams(&folder()).unwrap_or_else(|why| stop(2, &format!("no recordings: {why}")));
     list::sequences(&streams)
 }
 
@@ -275,6 +305,7 @@ fn main() {
         ["check"] => check(),
         ["gen", "frames", ..] => gen_frames(&arguments[2..]),
         ["gen", "bools", ..] => gen_bools(&arguments[2..]),
+        ["records", ..] => records(&arguments[1..]),
         ["list"] => {
             let (bytes, stats) = list::frames(&fixed_list().sequences);
             fixed(&bytes, 2_000_000, stats.missing());

@@ -1,4 +1,4 @@
-//! Document 01's rules written straight from its words, to be held against the Rust.
+//! The rules of docs/RULES.md written out a second time, from their words, to be held against the Rust.
 
 use crate::answer::{Answer, COEFFS, KEPT, MOTION, NUMBERS, PROBS};
 use crate::bare::Read;

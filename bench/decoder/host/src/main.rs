@@ -1,24 +1,35 @@
-//! Reads the flags of every frame of the recordings by both decoders. Call: host FOLDER both|rattle|rust
-//! `both` compares the two sums of each frame and prints how many flags there were and a checksum; the others run one side alone.
+//! Reads the flags of every frame of the recordings by both decoders. Call: host FOLDER both|rattle|rust|time
+//! `both` compares the two sums of each frame and prints how many frames and flags there were and a checksum; `rattle` and `rust` run one
+//! side alone; `time` prints the nanoseconds a frame of each, and of how many rounds these are the best.
 
-use std::path::PathBuf;
+#[path = "../../../shared.rs"]
+mod shared;
 
 #[link(name = "bench_decoder", kind = "static")]
 extern "C" {
     fn bench_decoder_flags(area: *const u8, length: usize) -> u64;
 }
 
-/// The frames of an IVF file: a header whose length stands at 6, then 12 bytes and the frame, each with its length first.
-fn frames(file: &[u8]) -> Vec<Vec<u8>> {
-    let word = |at: usize| u32::from_le_bytes(file[at..at + 4].try_into().expect("four bytes")) as usize;
-    let mut at = u16::from_le_bytes([file[6], file[7]]) as usize;
-    let mut found = Vec::new();
-    while at + 12 <= file.len() {
-        let length = word(at);
-        found.push(file[at + 12..at + 12 + length].to_vec());
-        at += 12 + length;
-    }
-    found
+// The emulator's count ends at the next instruction of these, so that each must come back to itself.
+#[no_mangle]
+#[inline(never)]
+pub extern "C" fn call_rattle(area: *const u8, length: usize) -> u64 {
+    // SAFETY: the function asks nothing of a slice but that it is one.
+    std::hint::black_box(unsafe { bench_decoder_flags(area, length) })
+}
+
+#[no_mangle]
+#[inline(never)]
+pub extern "C" fn call_rust(area: *const u8, length: usize) -> u64 {
+    std::hint::black_box(reference::reference_flags(area, length))
+}
+
+fn rattle(area: &[u8]) -> u64 {
+    call_rattle(area.as_ptr(), area.len())
+}
+
+fn rust(area: &[u8]) -> u64 {
+    call_rust(area.as_ptr(), area.len())
 }
 
 /// What follows the chunk of 10 or 3 bytes; none where nothing does.
@@ -29,35 +40,28 @@ fn area(frame: &[u8]) -> Option<&[u8]> {
 
 fn main() {
     let arguments: Vec<String> = std::env::args().skip(1).collect();
-    let [folder, side] = &arguments[..] else { panic!("call: host FOLDER both|rattle|rust") };
-    let mut files: Vec<PathBuf> = std::fs::read_dir(folder)
-        .expect("the folder of recordings")
-        .map(|entry| entry.expect("an entry").path())
-        .filter(|path| path.extension().is_some_and(|e| e == "ivf"))
-        .collect();
-    files.sort();
+    let [folder, side] = &arguments[..] else { panic!("call: host FOLDER both|rattle|rust|time") };
+    let frames = shared::frames(folder);
+    let areas: Vec<(&str, &[u8])> = frames.iter().filter_map(|(name, frame)| Some((name.as_str(), area(frame)?))).collect();
+    if side == "time" {
+        return shared::times(&areas.iter().map(|(_, area)| *area).collect::<Vec<_>>(), rattle, rust);
+    }
     let (mut count, mut check) = (0u64, 0u64);
-    for file in files {
-        for frame in frames(&std::fs::read(&file).expect("a recording")) {
-            let Some(area) = area(&frame) else { continue };
-            // SAFETY: the function asks nothing of a slice but that it is one.
-            let rattle = || unsafe { bench_decoder_flags(area.as_ptr(), area.len()) };
-            let rust = || reference::reference_flags(area.as_ptr(), area.len());
-            let sum = match side.as_str() {
-                "rattle" => rattle(),
-                "rust" => rust(),
-                _ => {
-                    let (a, b) = (rattle(), rust());
-                    if a != b {
-                        println!("{}: frame {count}: other flags", file.display());
-                        std::process::exit(1);
-                    }
-                    a
+    for (name, area) in areas {
+        let sum = match side.as_str() {
+            "rattle" => rattle(area),
+            "rust" => rust(area),
+            _ => {
+                let (a, b) = (rattle(area), rust(area));
+                if a != b {
+                    println!("{name}: frame {count} of all: other flags");
+                    std::process::exit(1);
                 }
-            };
-            check = check.rotate_left(7) ^ sum;
-            count += 1;
-        }
+                a
+            }
+        };
+        check = check.rotate_left(7) ^ sum;
+        count += 1;
     }
     println!("{count} {} {check:016x}", count * 1056);
 }

@@ -1,31 +1,44 @@
--- After i reads the decoder is one over the area, with at most i bools read. Assumes nothing.
-use Prim.Native.Nat.{_-_, _≤_}
+-- The loop is `Turns` over the table, which has 1,056 entries.
+use Prim.Native.Nat.{ℕ, _-_}
 use native.Mathlib.Omega.{arith}
+use mathlib.Core.Path.{_≡_, refl, ap, _∙_}
+use mathlib.Core.List.{List}
+use lib.ListN.{length}
 use borrow.Author.Needs.{needs}
-use Rattle.bool_decoder.specs.Window.{Over}
+use Rattle.vp8_probs.specs.Tables.{coeffUpdate}
+use Rattle.bench_decoder.specs.Flags.{sumOf}
+use Rattle.bench_decoder.proofs.Turns.{Turn, begin, turn, end, whole}
+use Rattle.bool_decoder.proofs.Chain.{fewer}
 use Rattle.bench_decoder.proofs.flags.Statement.{statement}
 use Rattle.bench_decoder.proofs.flags.Tie as tie
 
 abbrev Inv-loop : tie.InvT-loop
-Inv-loop area table dec₀ sum₀ i₀ dec sum i = (i ≤ 1056) × (dec .bools ≤ i) × Over area dec
+Inv-loop area table dec₀ sum₀ i₀ dec sum i = Turn area table dec sum i
 
 abbrev μ-loop : tie.MeasureT-loop
 μ-loop area table dec₀ sum₀ i₀ dec sum i = 1056 - i
+
+lengths : (c : tie.Start Inv-loop μ-loop) → length (c .args .table .now) ≡ 1056
+unfolding coeffUpdate
+lengths c = ap length (c .pre)
 
 new-requires : tie.Need-new-requires Inv-loop μ-loop
 new-requires c κs = search needs
 
 loop-holds : tie.Need-loop-holds Inv-loop μ-loop
-loop-holds c = (omega arith, omega (arith, c .new .ensures .none), c .new .ensures .over)
+loop-holds c = begin (rw (lengths (c .before .before)) (omega arith)) (c .new .ensures)
 
 element-copy-out-read-bit : tie.Need-element-copy-out-read-bit Inv-loop μ-loop
 element-copy-out-read-bit c = search needs
 
 read-bit-requires : tie.Need-read-bit-requires Inv-loop μ-loop
-read-bit-requires c κs = let l = c .before .before .loop in record { over = l .inv .2; room = omega (arith, l .inv .1, l .inv .0) }
+read-bit-requires c κs =
+    let size = lengths (c .before .before .before .before .before) in
+    let t = c .before .before .loop .inv in
+    fewer (omega arith) (t .good)
 
-fold-requires : tie.Need-fold-requires Inv-loop μ-loop
-fold-requires c κs = search needs
+mark-requires : tie.Need-mark-requires Inv-loop μ-loop
+mark-requires c κs = search needs
 
 add-i : tie.Need-add-i Inv-loop μ-loop
 add-i c = search needs
@@ -35,12 +48,17 @@ loop-less c = search needs
 
 loop-again : tie.Need-loop-again Inv-loop μ-loop
 loop-again c =
-    let l = c .before .before .before .before .before .loop in
-    let r = c .before .before .read-bit in
-    (omega arith, omega (arith, r .ensures .most, l .inv .1), r .ensures .over)
+    let at-loop = c .before .before .before .before .before in
+    let size = lengths (at-loop .before .before .before) in
+    let t = turn (at-loop .loop .inv) (omega arith) (c .before .before .read-bit .ensures) in
+    rw (c .before .mark .ensures) t
 
 returns : tie.Need-returns Inv-loop μ-loop
-returns c = search needs
+unfolding sumOf
+returns c =
+    let start = c .before .before .before .before in
+    let size = lengths start in
+    end (c .before .loop .inv) (omega arith) ∙ ap (whole (start .args .area .now)) (start .pre)
 
 pub flags-spec : {M : Type 1} → statement M
 flags-spec =
@@ -52,7 +70,7 @@ flags-spec =
     loop-holds
     element-copy-out-read-bit
     read-bit-requires
-    fold-requires
+    mark-requires
     add-i
     loop-less
     loop-again

@@ -1,4 +1,4 @@
--- The part that was filled stands at the start of the whole. Assumes nothing.
+-- The part that was filled stands at the start of the whole.
 use Prim.Native.Nat.{ℕ, _≤_, _<_}
 use native.Mathlib.Omega.{arith}
 use mathlib.Core.Path.{_≡_}

@@ -1,7 +1,7 @@
--- The pieces one after the other: `then` of `Runs`. Assumes nothing.
+-- The pieces one after the other: `then` of `Puts`. Assumes nothing.
 use mathlib.Core.List.{[], _∷_}
 use borrow.Author.Needs.{needs}
-use Rattle.vp8_flat.proofs.Runs.{then, worded}
+use Rattle.text.proofs.Puts.{then, worded}
 use Rattle.vp8_flat.proofs.put_adjustments.Statement.{statement}
 use Rattle.vp8_flat.proofs.put_adjustments.Tie as tie
 

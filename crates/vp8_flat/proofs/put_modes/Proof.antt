@@ -1,6 +1,6 @@
--- The pieces one after the other: `then` of `Runs`. Assumes nothing.
+-- The pieces one after the other: `then` of `Puts`. Assumes nothing.
 use borrow.Author.Needs.{needs}
-use Rattle.vp8_flat.proofs.Runs.{then}
+use Rattle.text.proofs.Puts.{then}
 use Rattle.vp8_flat.proofs.put_modes.Statement.{statement}
 use Rattle.vp8_flat.proofs.put_modes.Tie as tie
 

@@ -1,6 +1,6 @@
 -- The pieces one after the other, and together the kept numbers: `Whole`. Assumes nothing.
 use borrow.Author.Needs.{needs}
-use Rattle.vp8_flat.proofs.Runs.{then, worded}
+use Rattle.text.proofs.Puts.{then, worded}
 use Rattle.vp8_flat.proofs.Whole.{kept-is}
 use Rattle.vp8_flat.proofs.put_parser.Statement.{statement}
 use Rattle.vp8_flat.proofs.put_parser.Tie as tie

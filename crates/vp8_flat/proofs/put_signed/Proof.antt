@@ -8,8 +8,9 @@ use mir.Val.{ofZ}
 use mir.Syntax.{w8}
 use mir.ValLaws.{toZ-ofZ}
 use borrow.Author.Needs.{needs}
-use Rattle.lines.specs.Text.{text, put, puts}
-use Rattle.vp8_flat.proofs.Runs.{Put, begin, turn, end, one, joined-map}
+use Rattle.text.specs.Text.{text, put, puts}
+use Rattle.text.proofs.Puts.{one}
+use Rattle.vp8_flat.proofs.Runs.{Put, begin, turn, end, joined-map}
 use Rattle.vp8_flat.proofs.put_signed.Statement.{statement}
 use Rattle.vp8_flat.proofs.put_signed.Tie as tie
 

@@ -1,9 +1,16 @@
--- Field by field; the position, the snapshot and the count are the definition's.
+-- Field by field, with the equations that the calls ensure; two rewrites, since one would pass the checker's limit of steps.
 use borrow.Author.Needs.{needs}
 use Rattle.rfc6386.specs.Frame.{snapshot}
-use Rattle.vp8_header.specs.Stages.{headerFrom}
+use Rattle.rfc6386.specs.Call.{probsOver, headerOf}
+use Rattle.vp8_header.specs.Stages.{firstOf, secondOf, interOf, thirdOf}
 use Rattle.vp8_header.proofs.header_of.Statement.{statement}
 use Rattle.vp8_header.proofs.header_of.Tie as tie
+
+cast-horiz-scale-code : tie.Need-cast-horiz-scale-code
+cast-horiz-scale-code c = search needs
+
+cast-vert-scale-code : tie.Need-cast-vert-scale-code
+cast-vert-scale-code c = search needs
 
 mode-probs-init-defaults-requires : tie.Need-mode-probs-init-defaults-requires
 mode-probs-init-defaults-requires c κs = search needs
@@ -17,28 +24,32 @@ snapshot-requires c κs = search needs
 bools-requires : tie.Need-bools-requires
 bools-requires c κs = search needs
 
-cast-t19 : tie.Need-cast-t19
-cast-t19 c = search needs
+blocks-requires : tie.Need-blocks-requires
+blocks-requires c κs = search needs
 
-cast-t21 : tie.Need-cast-t21
-cast-t21 c = search needs
+blocks-requires-2 : tie.Need-blocks-requires-2
+blocks-requires-2 c κs = search needs
 
 returns : tie.Need-returns
-unfolding headerFrom snapshot
-returns c =
+unfolding headerOf snapshot probsOver firstOf secondOf thirdOf interOf
+returns c p a b t ex ey ez =
     let at-bools = c .before .before in
-    let s = at-bools .before .snapshot .ensures in
-    let pos = at-bools .before .before .pos .ensures in
-    rw (at-bools .before .before .before .mode-probs-init-defaults .ensures, pos, s .range, s .value, s .count, at-bools .bools .ensures)
+    let at-snapshot = at-bools .before in
+    let s = at-snapshot .snapshot .ensures in
+    let modes = at-snapshot .before .before .mode-probs-init-defaults .ensures in
+    rw (modes, at-snapshot .before .pos .ensures, s .range, s .value, s .count)
+    (rw (at-bools .bools .ensures, c .before .blocks2 .ensures, c .blocks3 .ensures) (rw (ex, ey, ez)))
 
 pub header-of-spec : {M : Type 1} → statement M
 header-of-spec =
     tie.close
     (tie.spec
+    cast-horiz-scale-code
+    cast-vert-scale-code
     mode-probs-init-defaults-requires
     pos-requires
     snapshot-requires
     bools-requires
-    cast-t19
-    cast-t21
+    blocks-requires
+    blocks-requires-2
     returns)

@@ -1,4 +1,4 @@
--- The parts stand where the definition has them. Assumes nothing.
+-- The parts stand where the definition has them: `rows-at`, at eight parts of 33.
 use Rattle.vp8_records.specs.Layout.{laidContexts}
 use Rattle.vp8_records.proofs.Places.{rows-at}
 use denote.Ref.{now}
@@ -53,7 +53,8 @@ contexts-at-requires-8 c κs = search needs
 
 returns : tie.Need-returns
 returns c =
-    let a = c .before .before .before .before .before .before .before .before .before .args in
+    let at-fifth = c .before .before .before .before in
+    let a = at-fifth .before .before .before .before .before .args in
     cc (rows-at 7 33 laidContexts (now (a .flat)) (a .at))
 
 pub bands-at-spec : {M : Type 1} → statement M

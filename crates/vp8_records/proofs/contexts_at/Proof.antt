@@ -1,4 +1,4 @@
--- The parts stand where the definition has them. Assumes nothing.
+-- The parts stand where the definition has them: `rows-at`, at three parts of 11.
 use Rattle.vp8_records.specs.Layout.{laidTokens}
 use Rattle.vp8_records.proofs.Places.{rows-at}
 use denote.Ref.{now}

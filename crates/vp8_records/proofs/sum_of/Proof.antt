@@ -1,4 +1,4 @@
--- The loop adds one size more at each turn: `total-more`. Assumes nothing.
+-- The loop adds one size more at each turn: `total-more`.
 use Prim.Native.Nat.{ℕ, _*_, _-_, _^_, _≤_}
 use native.Mathlib.Omega.{arith}
 use mathlib.Core.Path.{_≡_, refl, ap, _∙_}

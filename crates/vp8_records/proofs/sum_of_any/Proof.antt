@@ -1,4 +1,4 @@
--- Eight sizes are all there are. Assumes nothing.
+-- By the branch: eight sizes are all there are, so that the first eight are the first of any greater count.
 use Prim.Native.Nat.{ℕ, _≤_}
 use native.Mathlib.Omega.{arith}
 use mathlib.Core.Path.{_≡_, ap, sym, _∙_}
@@ -25,7 +25,8 @@ returns-2 c =
     let xs : List ℕ = a .t1 in
     let eight : length xs ≡ 8 = search needs in
     let many : 8 ≤ a .count = omega arith in
-    let same : take 8 xs ≡ take (a .count) xs = take-all 8 xs (omega (arith, eight)) ∙ sym (take-all (a .count) xs (omega (arith, eight, many))) in
+    let same : take 8 xs ≡ take (a .count) xs = take-all 8 xs (omega (arith, eight))
+    ∙ sym (take-all (a .count) xs (omega (arith, eight, many))) in
     (c .sum-of2 .ensures .0 ∙ ap total same, c .sum-of2 .ensures .1)
 
 pub sum-of-any-spec : {M : Type 1} → statement M

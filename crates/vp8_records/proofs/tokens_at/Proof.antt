@@ -1,4 +1,4 @@
--- The loop copies 11 numbers: `Copy`, at 11. Assumes nothing.
+-- The loop copies 11 numbers: `Copy`, at 11. A function has its own array length, so that `mv_context_at` at 19 is another; the law is one.
 use Prim.Native.Nat.{_-_}
 use mathlib.Core.Path.{refl}
 use borrow.Author.Needs.{needs}

@@ -1,4 +1,4 @@
--- The parts stand where the definition has them. Assumes nothing.
+-- The parts stand where the definition has them: `rows-at`, at four parts of 264.
 use Prim.Native.Nat.{ℕ}
 use mathlib.Core.Path.{_≡_}
 use mathlib.Core.List.{List, [], _∷_}

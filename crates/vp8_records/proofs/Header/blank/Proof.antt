@@ -1,4 +1,4 @@
--- Each part is the part of the blank header. Assumes nothing.
+-- Each part is the part of the blank header, by its own contract.
 use Rattle.vp8_records.specs.Start.{blank}
 use borrow.Author.Needs.{needs}
 use Rattle.vp8_records.proofs.Header.blank.Statement.{statement}

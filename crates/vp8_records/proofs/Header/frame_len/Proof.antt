@@ -1,4 +1,4 @@
--- Sums that wrap, as one sum that wraps. Assumes nothing.
+-- Three sums that wrap are one sum that wraps; what is summed is then the definition's, by the callees' contracts.
 use Prim.Native.Nat.{ℕ, _+_, _-_, _*_, _%_, _^_}
 use native.Mathlib.Nat.{mod-add-mod, add-mod-mod}
 use native.Mathlib.Omega.{arith}
@@ -49,16 +49,20 @@ wrapping-add-usize-requires-3 c κs = search needs
 
 returns : tie.Need-returns
 returns c =
-    let h : Header = c .before .before .before .before .before .before .before .before .args .self in
-    let n = c .before .before .before .before .before .before .num-dct-partitions in
-    let s = c .before .before .before .sum-of-any in
+    let at-sum = c .before .before .before in
+    let at-count = at-sum .before .before .before in
+    let h : Header = at-count .before .before .args .self in
+    let n = at-count .num-dct-partitions in
+    let s = at-sum .sum-of-any in
     let is : s .result ≡ total (take (partitionsOf h) (h .«partition_size»)) =
     s .ensures .0 ∙ ap (λ (k : ℕ). total (take k (h .«partition_size»))) (n .ensures) in
     let e : ℕ = h .«data_chunk_size» + h .«first_part_size» + s .result in
     let all : e + (n .result - 1 + (n .result - 1) + (n .result - 1))
-    ≡ h .«data_chunk_size» + (h .«first_part_size» + (3 * (partitionsOf h - 1) + total (take (partitionsOf h) (h .«partition_size»)))) = omega (arith, n .ensures, is) in
+    ≡ h .«data_chunk_size» + (h .«first_part_size» + (3 * (partitionsOf h - 1) + total (take (partitionsOf h) (h .«partition_size»)))) =
+    omega (arith, n .ensures, is) in
     c .wrapping-add-usize3 .ensures
-    ∙ ap (λ (w : ℕ). (e + w) % 2 ^ 64) (c .before .wrapping-add-usize2 .ensures ∙ ap (λ (w : ℕ). (w + (n .result - 1)) % 2 ^ 64) (c .before .before .wrapping-add-usize .ensures))
+    ∙ ap (λ (w : ℕ). (e + w) % 2 ^ 64) (c .before .wrapping-add-usize2 .ensures
+    ∙ ap (λ (w : ℕ). (w + (n .result - 1)) % 2 ^ 64) (c .before .before .wrapping-add-usize .ensures))
     ∙ thrice e (n .result - 1) (2 ^ 64) ∙ ap (λ (w : ℕ). w % 2 ^ 64) all
 
 pub frame-len-spec : {M : Type 1} → statement M

@@ -1,4 +1,4 @@
--- Nothing is shifted out. Assumes nothing.
+-- A shift of 1 by less than 64 loses nothing, so it is the power of 2.
 use Prim.Native.Nat.{ℕ, _%_, _<_}
 use native.Mathlib.Nat.{one-mul}
 use native.Mathlib.Omega.{arith}

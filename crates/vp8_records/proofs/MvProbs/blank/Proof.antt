@@ -1,4 +1,4 @@
--- By computing. Assumes nothing.
+-- Both sides compute to the same records.
 use mathlib.Core.Path.{refl}
 use Rattle.vp8_records.specs.Layout.{rows}
 use Rattle.vp8_records.specs.Start.{noMv}

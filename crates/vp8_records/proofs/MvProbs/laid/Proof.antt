@@ -1,4 +1,4 @@
--- The parts stand where the definition has them. Assumes nothing.
+-- The parts stand where the definition has them: `rows-at`, at two parts of 19.
 use Rattle.vp8_records.specs.Layout.{laidMvContext}
 use Rattle.vp8_records.proofs.Places.{rows-at}
 use denote.Ref.{now}

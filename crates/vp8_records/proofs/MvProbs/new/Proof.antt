@@ -1,4 +1,4 @@
--- The constant is the definition's table. Assumes nothing.
+-- The constant is the definition's table, laid out by the callee's contract.
 use Rattle.vp8_probs.specs.Tables.{mvDefault}
 use Rattle.vp8_records.specs.Start.{freshMv}
 use borrow.Author.Needs.{needs}

@@ -1,4 +1,4 @@
--- Each part is the part of the fresh parser. Assumes nothing.
+-- Each part is the part of the fresh parser, by its own contract.
 use Rattle.vp8_records.specs.Start.{fresh}
 use borrow.Author.Needs.{needs}
 use Rattle.vp8_records.proofs.Parser.new.Statement.{statement}

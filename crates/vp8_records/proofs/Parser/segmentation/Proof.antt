@@ -1,5 +1,5 @@
--- `vp8_records::Parser::segmentation` meets its contract: a walk of its MIR, by hand. The `&` to the field comes out of the `&` to the parser:
--- `lends`. Assumes nothing.
+-- `vp8_records::Parser::segmentation` meets its contract: a walk of its MIR, by hand. The `&` to the field comes out of the `&` to the
+-- parser: `lends`. A walk reads its own function's code, so that the other field's accessor has a copy of this one.
 use mathlib.Core.Path.{_≡_, refl}
 use mathlib.Core.Option.{some as some′}
 use Prim.Native.Nat.{ℕ, _+_}
@@ -57,10 +57,12 @@ part : {M : Type 1} (𝓤 : URA M) (H : Heap 𝓤) (A : Atoms 𝓤) (W : Given �
 part 𝓤 H A W =
     part-cut 𝓤 H A W R F.the-row 0 (λ x. x .segmentation)
     (λ s x b o. cut-record 𝓤 H A s R F.the-type 0 x x (x .segmentation) (x .segmentation) (b, o)
-    (look-at 𝓤 H A W s T.the-type T′.the-laws 0 0 refl refl (b, o) x (x .segmentation, (x .«mb_lf_adjust», (x .«coeff_prob», (x .«mv_prob», (x .«mode_probs», tt))))) refl))
+    (look-at 𝓤 H A W s T.the-type T′.the-laws 0 0 refl refl (b, o) x
+    (x .segmentation, (x .«mb_lf_adjust», (x .«coeff_prob», (x .«mv_prob», (x .«mode_probs», tt))))) refl))
     (halves 𝓤 H A W (cStruct T.the-type T′.the-laws T′.the-copy))
 
-module _ {M : Type 1} (𝓤 : URA M) (H : Heap 𝓤) (A : Atoms 𝓤) (W : Given 𝓤 H A) (mem : Memory → SProp 𝓤) (run : Routine → Fun 𝓤) (κ : Lft) (q : Share) (b o : ℕ) (γ : GName) (h : Parser) where
+module _ {M : Type 1} (𝓤 : URA M) (H : Heap 𝓤) (A : Atoms 𝓤) (W : Given 𝓤 H A) (mem : Memory → SProp 𝓤) (run : Routine → Fun 𝓤) (κ : Lft)
+    (q : Share) (b o : ℕ) (γ : GName) (h : Parser) where
   abbrev x : RefT Parser × Unit {0}
   x = (record { ptr = (b, o); name = γ; now = h }, tt)
 
@@ -74,10 +76,12 @@ module _ {M : Type 1} (𝓤 : URA M) (H : Heap 𝓤) (A : Atoms 𝓤) (W : Given
   abbrev Post : Val → SProp 𝓤
   Post = walkOf 𝓤 H A field′.ended stayed (field′.clauses 𝓤 H A mem run) .post (((κ, tt), (q, tt), tt, x, at), tt)
 
-  exits : (γ′ : GName) → ent 𝓤 (⋆ 𝓤 H A (‵ (Lent F.the-row κ (h .segmentation) b o′ γ′) ∷ ‵ (Lent R κ h b o γ) ∷ ‵ (flft κ q) ∷ [])) (Post (vptr b o′))
+  exits : (γ′ : GName) → ent 𝓤 (⋆ 𝓤 H A (‵ (Lent F.the-row κ (h .segmentation) b o′ γ′) ∷ ‵ (Lent R κ h b o γ) ∷ ‵ (flft κ q) ∷ []))
+      (Post (vptr b o′))
   exits γ′ =
       qed W (‵ (Lent F.the-row κ (h .segmentation) b o′ γ′) ∷ ‵ (Lent R κ h b o γ) ∷ ‵ (flft κ q) ∷ []) ∵
-      suffices ! _ (ends-at 𝓤 H A field′.ended stayed (field′.clauses 𝓤 H A mem run) W (((κ, tt), (q, tt), tt, x, at), tt) (vptr b o′) (record { ptr = (b, o′); name = γ′; now = h .segmentation }) (tt, tt) (tt, tt)) $ says ! refl $
+      suffices ! _ (ends-at 𝓤 H A field′.ended stayed (field′.clauses 𝓤 H A mem run) W (((κ, tt), (q, tt), tt, x, at), tt) (vptr b o′)
+      (record { ptr = (b, o′); name = γ′; now = h .segmentation }) (tt, tt) (tt, tt)) $ says ! (refl, refl) $
       nothing ! $ move ! (3 ∷ 0 ∷ []) $ join ! $ frame ! $ nothing ! $ move ! (2 ∷ 0 ∷ []) $ fjoin ! $ frame ! $ done !
 
   module _ (C : Calls 𝓤 H) (Λ : Loops 𝓤 H) where
@@ -88,18 +92,24 @@ module _ {M : Type 1} (𝓤 : URA M) (H : Heap 𝓤) (A : Atoms 𝓤) (W : Given
         -- [_1; …; room for _0; …; the token; what the & owns]
         assigns ! (addr ! (from ! (hop ! (look ! 0 refl) (fld ! lies (stop !))))) (from ! (stop !)) (init ! 2 refl (tt, tt)) $
         move ! (4 ∷ []) $ split ! $ move ! (6 ∷ []) $ fsplit ! $ move ! (0 ∷ 2 ∷ []) $
-        use2 W (later (some (λ (γ′ : GName). ‵ (Lent F.the-row κ (h .segmentation) b o′ γ′) ⊛ (‵ (Lent R κ h b o γ) ⊛ ‵ (flft κ q))))) (lends 𝓤 H A W R F.the-row 0 (λ y. y .segmentation) (part 𝓤 H A W) κ q h b o γ) $
+        use2 W (later (some (λ (γ′ : GName). ‵ (Lent F.the-row κ (h .segmentation) b o′ γ′) ⊛ (‵ (Lent R κ h b o γ) ⊛ ‵ (flft κ q)))))
+        (lends 𝓤 H A W R F.the-row 0 (λ y. y .segmentation) (part 𝓤 H A W) κ q h b o γ) $
         await ! tt $ pick ! (λ γ′. split ! $ move ! (1 ∷ []) $ split ! $
         -- [what the & owns; the token; what the field's & owns; true; true; _1; …; _0; …]
-        returns ! (look ! 7 refl) $ forget ! 5 refl $ forget ! 7 refl $ move ! (7 ∷ 8 ∷ []) $ free1 ! $ move ! (5 ∷ 6 ∷ []) $ free1 ! $ free0 ! $
+        returns ! (look ! 7 refl) $ forget ! 5 refl $ forget ! 7 refl $ move ! (7 ∷ 8 ∷ []) $ free1 ! $ move ! (5 ∷ 6 ∷ []) $ free1 ! $
+        free0 ! $
         keep ! (2 ∷ 0 ∷ 1 ∷ []) $ by ! (exits γ′))))
 
 module _ {M : Type 1} (𝓤 : URA M) (H : Heap 𝓤) (A : Atoms 𝓤) (W : Given 𝓤 H A) (mem : Memory → SProp 𝓤) (run : Routine → Fun 𝓤) where
-  field-walks : (C : Calls 𝓤 H) (Λ : Loops 𝓤 H) → Walks 𝓤 H A field′.ended stayed (WpFn 𝓤 H C Λ code.function) (field′.clauses 𝓤 H A mem run)
-  field-walks C Λ = walked 𝓤 H A field′.ended stayed (field′.clauses 𝓤 H A mem run) (WpFn 𝓤 H C Λ code.function) (λ κs. (ptr-vals, tt)) (λ κs. (shr-tells (named 0) (κs .0) R, tt))
-      (λ κs qs bounds a _ _. via 𝓤 _ (fst∗ 𝓤 _ (emp 𝓤)) (walk 𝓤 H A W mem run (κs .0) (qs .0) (a .0 .ptr .0) (a .0 .ptr .1) (a .0 .name) (a .0 .now) C Λ))
+  field-walks : (C : Calls 𝓤 H) (Λ : Loops 𝓤 H) → Walks 𝓤 H A field′.ended stayed (WpFn 𝓤 H C Λ code.function)
+      (field′.clauses 𝓤 H A mem run)
+  field-walks C Λ = walked 𝓤 H A field′.ended stayed (field′.clauses 𝓤 H A mem run) (WpFn 𝓤 H C Λ code.function) (λ κs. (ptr-vals, tt))
+      (λ κs. (shr-tells (named 0) (κs .0) R, tt))
+      (λ κs qs bounds a _ _. via 𝓤 _ (fst∗ 𝓤 _ (emp 𝓤)) (walk 𝓤 H A W mem run (κs .0) (qs .0) (a .0 .ptr .0) (a .0 .ptr .1) (a .0 .name)
+      (a .0 .now) C Λ))
 
-field-meets : {M : Type 1} (𝓤 : URA M) (H : Heap 𝓤) (A : Atoms 𝓤) → Given 𝓤 H A → (mem : Memory → SProp 𝓤) (run : Routine → Fun 𝓤) (𝓣 : Tables 𝓤 H)
+field-meets : {M : Type 1} (𝓤 : URA M) (H : Heap 𝓤) (A : Atoms 𝓤) → Given 𝓤 H A
+    → (mem : Memory → SProp 𝓤) (run : Routine → Fun 𝓤) (𝓣 : Tables 𝓤 H)
     → Meets 𝓤 H A field′.signature (WpFn 𝓤 H (𝓣 .C) (𝓣 .Λ) code.function) (field′.spec 𝓤 H A mem run)
 field-meets 𝓤 H A W mem run 𝓣 =
     walk-meets 𝓤 H A field′.ended stayed W (goes-none-ref 𝓤 H A W 1 (0 ∷ []) tt (plain (λ _. R)) yes, tt) (field′.clauses 𝓤 H A mem run)

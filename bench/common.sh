@@ -1,0 +1,119 @@
+# What both benchmarks share; sourced by bench/decoder/run and bench/parse/run, which set `name` (theirs), `crate` and `given` (a file of
+# the Rust's that they need). It checks what is at hand, builds the port's library and the host, and counts and times.
+#   SILLBROOK_RUST_SRC   the folder that holds the Rust's src/ (else ../shared/docs/src beside the repository)
+#   SILLBROOK_STREAMS    the folder of recordings (else ../shared/streams beside the repository)
+#   SILLBROOK_COUNTER    callgrind or emulator; where not set, callgrind on x86-64 with valgrind, else the emulator
+#   SILLBROOK_TOOLS      the folder of bin/qemu-x86_64 and bin/rustc (else bench/target/tools, where bench/fetch puts them)
+#   SILLBROOK_CROSS=yes  builds the host with the kit's linker and C library also on x86-64, as it is done elsewhere
+bench=$(cd "$(dirname "${BASH_SOURCE[0]}")" && pwd)
+top=$(cd "$bench/.." && pwd)
+made=$bench/target/$crate
+machine=$(uname -m)
+
+stop() {
+    echo "$name: $1" >&2
+    exit 2
+}
+
+for tool in rt cargo; do
+    command -v "$tool" > /dev/null || stop "no $tool on the path"
+done
+source=${SILLBROOK_RUST_SRC:-$top/../shared/docs/src}
+[ -f "$source/$given" ] || stop "no Rust source in $source; set SILLBROOK_RUST_SRC"
+streams=${1:-${SILLBROOK_STREAMS:-$top/../shared/streams}}
+[ -d "$streams" ] || stop "no recordings in $streams"
+streams=$(cd "$streams" && pwd)
+tools=${SILLBROOK_TOOLS:-$bench/target/tools}
+counter=${SILLBROOK_COUNTER:-}
+[ -n "$counter" ] || { [ "$machine" = x86_64 ] && command -v valgrind > /dev/null && counter=callgrind || counter=emulator; }
+case $counter in
+callgrind)
+    [ "$machine" = x86_64 ] || stop "callgrind counts the instructions of its own machine: on $machine the counter is the emulator"
+    command -v valgrind > /dev/null || stop "no valgrind on the path"
+    ;;
+emulator)
+    [ -x "$tools/bin/qemu-x86_64" ] || stop "no emulator in $tools: call bench/fetch"
+    command -v cc > /dev/null || stop "no cc on the path, which compiles the emulator's counter"
+    ;;
+*) stop "SILLBROOK_COUNTER is callgrind or emulator" ;;
+esac
+
+# The library is proved as it is built.
+mkdir -p "$made"
+(cd "$top" && rt staticlib "$crate") > "$made/log" 2>&1 || {
+    cat "$made/log" >&2
+    exit 1
+}
+SILLBROOK_RUST_SRC=$(cd "$source" && pwd)
+SILLBROOK_STATICLIB=$top/target/staticlib
+export SILLBROOK_RUST_SRC SILLBROOK_STATICLIB
+
+# The Rust is a crate of its own, optimised, as one unit (Cargo.toml: codegen-units = 1), and the host is linked with both. Elsewhere than
+# on x86-64 it is built for x86-64, with the kit's linker and C library.
+words=() rustc=rustc profile=release runs=(-U LD_LIBRARY_PATH)
+if [ "$machine" != x86_64 ] || [ "${SILLBROOK_CROSS:-}" = yes ]; then
+    triple=x86_64-unknown-linux-gnu
+    kit=$(dirname "$(dirname "$(rt doc)")")/on/$machine/toolchain
+    [ ! -x "$tools/bin/rustc" ] || rustc=$tools/bin/rustc
+    [ -d "$("$rustc" --print target-libdir --target $triple)" ] || stop "$rustc has no library for $triple: call bench/fetch"
+    mkdir -p "$made/lib" "$made/system/lib64"
+    for lib in c.so.6 m.so.6 gcc_s.so.1; do ln -sfn "$kit/lib/lib$lib" "$made/lib/lib${lib%%.*}.so"; done
+    ln -sfn "$kit/lib/libc_nonshared.a" "$made/lib/libc_nonshared.a"
+    # Their contents are in the C library, and rustc names them all the same.
+    for lib in dl rt util pthread; do "$kit/bin/llvm-ar" crs "$made/lib/lib$lib.a"; done
+    ln -sfn "$kit/lib/ld-linux-x86-64.so.2" "$made/system/lib64/ld-linux-x86-64.so.2"
+    links=(-pie -dynamic-linker /lib64/ld-linux-x86-64.so.2 "$kit/lib/Scrt1.o" "$kit/lib/crti.o" "$kit/lib/crtbeginS.o"
+        -L "$made/lib" -lc_nonshared "$kit/lib/crtendS.o" "$kit/lib/crtn.o")
+    flags=(-C "linker=$kit/bin/ld.lld" -C linker-flavor=ld.lld)
+    for link in "${links[@]}"; do flags+=(-C "link-arg=$link"); done
+    CARGO_ENCODED_RUSTFLAGS=$(printf '%s\x1f' "${flags[@]}")
+    export CARGO_ENCODED_RUSTFLAGS=${CARGO_ENCODED_RUSTFLAGS%?}
+    export RUSTC=$rustc
+    words=(--target $triple)
+    profile=$triple/release
+    runs=(-L "$made/system" -E "LD_LIBRARY_PATH=$kit/lib")
+fi
+cargo build --release --offline --quiet "${words[@]}" --manifest-path "$here/Cargo.toml" --target-dir "$made/cargo" || exit 1
+host=$made/cargo/$profile/host
+emulated() { "$tools/bin/qemu-x86_64" -cpu max "${runs[@]}" "$@"; }
+run() { if [ "$machine" = x86_64 ]; then "$host" "$streams" "$@"; else emulated "$host" "$streams" "$@"; fi; }
+
+if [ "$counter" = emulator ]; then
+    cc -O2 -shared -fPIC -o "$made/libcount.so" "$bench/count.c" || stop "the emulator's counter could not be built"
+    told=$("$tools/bin/qemu-x86_64" --version | sed -n '1s/ (.*//p')
+else
+    told=$(valgrind --version)
+fi
+built="$("$rustc" --version | cut -d' ' -f1,2), optimised, one unit"
+
+# Prints the instructions within a function and what it calls, over a run of the host; which symbols have them is left in $made/shares.
+count() { # FUNCTION CALLER WORDS..
+    local function=$1 caller=$2
+    shift 2
+    if [ "$counter" = emulator ]; then
+        emulated -plugin "$made/libcount.so,function=$function,caller=$caller,out=$made/counts" "$host" "$streams" "$@" > /dev/null || return
+        sed -n 's/^total //p' "$made/counts"
+        sed -n 's/^\([0-9][0-9]*\) /\1\t/p' "$made/counts" > "$made/shares"
+    else
+        valgrind --tool=callgrind --callgrind-out-file="$made/counts" --toggle-collect="$function" "$host" "$streams" "$@" 2>&1 |
+            sed -n 's/.*Collected : //p'
+        callgrind_annotate --threshold=100 "$made/counts" | awk '
+            $1 ~ /^[0-9,]+$/ && $2 ~ /^\(/ && !/PROGRAM TOTALS/ {
+                cost = $1; gsub(/,/, "", cost)
+                symbol = $0; sub(/^[^)]*\) +[^:]*:/, "", symbol); sub(/ \[.*$/, "", symbol)
+                print cost "\t" symbol
+            }' > "$made/shares"
+    fi
+}
+
+# What is said of both counts, and of both times where they are of this machine.
+ratio() { # WHAT OF UNIT OURS RUST
+    echo "counter: $counter ($told)"
+    awk -v what="$1" -v n="$2" -v unit="$3" -v a="$4" -v b="$5" -v built="$built" 'BEGIN {
+        printf "%s: %.*f instructions a %s, the Rust %.*f (%s), ratio %.3f\n", what, unit == "flag" ? 2 : 1, a / n, unit, unit == "flag" ? 2 : 1, b / n, built, a / b }'
+    if [ "$machine" != x86_64 ]; then
+        echo "time: not measured, since the program runs in an emulator here"
+        return
+    fi
+    run time | awk '{ printf "time on this machine: %.0f ns a frame, the Rust %.0f, ratio %.3f (each the best of %d rounds, turn about)\n", $1, $2, $1 / $2, $3 }'
+}

@@ -1,0 +1,2 @@
+-- What the contract of the exported call cites.
+pub mod Flags

@@ -1,0 +1,2 @@
+-- What the contracts of the benchmarks cite.
+pub mod Sum

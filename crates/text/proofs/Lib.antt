@@ -1,0 +1,3 @@
+-- What the proofs of several functions use, here and above.
+pub mod Puts
+pub mod Spelling

@@ -1,0 +1,77 @@
+-- Every parser record that code can hold has arrays of its type's lengths: what owning a value of the type tells (`Is`) holds the length of
+-- each array, level by level.
+use Prim.Native.Nat.{ℕ}
+use mathlib.Core.Path.{_≡_, sym, _∙_}
+use mathlib.Core.List.{List, [], _∷_, map}
+use lib.ListN.{length, length-map}
+use mir.Val.{Val}
+use base.Fml.{Fml}
+use denote.Laws.{Is}
+use denote.Shadow.{shadow}
+use denote.Array.{each, inArray}
+use Rattle.vp8_records.specs.declared.Tokens.{Tokens}
+use Rattle.vp8_records.specs.declared.Contexts.{Contexts}
+use Rattle.vp8_records.specs.declared.Bands.{Bands}
+use Rattle.vp8_records.specs.declared.CoeffProbs.{CoeffProbs}
+use Rattle.vp8_records.specs.declared.MvContext.{MvContext}
+use Rattle.vp8_records.specs.declared.MvProbs.{MvProbs}
+use Rattle.vp8_records.specs.declared.Parser.{Parser}
+use Rattle.vp8_records.specs.Shape.{Every, Each, SizedTokens, SizedContexts, SizedBands, SizedCoeffs, SizedMvContext, SizedMv, Sized}
+use Rattle.vp8_records.proofs.Tokens as T₁
+use Rattle.vp8_records.proofs.Contexts as T₂
+use Rattle.vp8_records.proofs.Bands as T₃
+use Rattle.vp8_records.proofs.CoeffProbs as T₄
+use Rattle.vp8_records.proofs.MvContext as T₅
+use Rattle.vp8_records.proofs.MvProbs as T₆
+use Rattle.vp8_records.proofs.Parser as T
+
+-- an array of n values, each of which is held as some d
+module _ {B d : Type 0} (f : d → List Val → Fml) (g : B → d) where
+  sized-array : (n : ℕ) (xs : List B) (vs : List Val) → shadow (inArray d f n (map g xs) vs) → length xs ≡ n
+  sized-array n xs vs h = sym (length-map xs g) ∙ h .1 .0 .1
+
+  every-of : (P : B → Type 0) → ((x : B) (u : Val) → shadow (f (g x) (u ∷ [])) → P x)
+      → (xs : List B) (us : List Val) → shadow (each d f (map g xs) us) → Every P xs
+  every-of P h [] us o = tt
+  every-of P h (x ∷ xs) [] o = absurd o
+  every-of P h (x ∷ xs) (u ∷ us) o = (h x u (o .0), every-of P h xs us (o .1))
+
+  each-of : (n : ℕ) (P : B → Type 0) → ((x : B) (u : Val) → shadow (f (g x) (u ∷ [])) → P x)
+      → (xs : List B) (vs : List Val) → shadow (inArray d f n (map g xs) vs) → Each n P xs
+  each-of n P h xs vs o = (sized-array n xs vs o, every-of P h xs (o .0) (o .1 .1))
+
+tokens : (x : Tokens) (vs : List Val) → Is T₁.the-row x vs → SizedTokens x
+tokens x vs h = sized-array _ _ 11 (x .v) _ (h .1 .1 .0)
+
+contexts : (x : Contexts) (vs : List Val) → Is T₂.the-row x vs → SizedContexts x
+contexts x vs h = each-of _ _ 3 SizedTokens (λ y u i. tokens y _ i) (x .v) _ (h .1 .1 .0)
+
+bands : (x : Bands) (vs : List Val) → Is T₃.the-row x vs → SizedBands x
+bands x vs h = each-of _ _ 8 SizedContexts (λ y u i. contexts y _ i) (x .v) _ (h .1 .1 .0)
+
+coeffs : (x : CoeffProbs) (vs : List Val) → Is T₄.the-row x vs → SizedCoeffs x
+coeffs x vs h = each-of _ _ 4 SizedBands (λ y u i. bands y _ i) (x .v) _ (h .1 .1 .0)
+
+mvContext : (x : MvContext) (vs : List Val) → Is T₅.the-row x vs → SizedMvContext x
+mvContext x vs h = sized-array _ _ 19 (x .v) _ (h .1 .1 .0)
+
+mv : (x : MvProbs) (vs : List Val) → Is T₆.the-row x vs → SizedMv x
+mv x vs h = each-of _ _ 2 SizedMvContext (λ y u i. mvContext y _ i) (x .v) _ (h .1 .1 .0)
+
+pub typed-sized : (p : Parser) (vs : List Val) → Is T.the-row p vs → Sized p
+typed-sized p vs h =
+    let segmentation = h .1 .1 .0 .1 .1 in
+    let adjust = h .1 .1 .1 .0 .1 .1 in
+    let probs = h .1 .1 .1 .1 in
+    let modes = probs .1 .1 .0 .1 .1 in
+    record {
+      quantizers = sized-array _ _ 4 (p .segmentation .«quantizer_update_value») _ (segmentation .1 .1 .1 .1 .0);
+      levels = sized-array _ _ 4 (p .segmentation .«lf_update_value») _ (segmentation .1 .1 .1 .1 .1 .0);
+      probs = sized-array _ _ 3 (p .segmentation .«segment_prob») _ (segmentation .1 .1 .1 .1 .1 .1 .0);
+      frames = sized-array _ _ 4 (p .«mb_lf_adjust» .«ref_frame_delta») _ (adjust .1 .1 .0);
+      modes = sized-array _ _ 4 (p .«mb_lf_adjust» .«mb_mode_delta») _ (adjust .1 .1 .1 .0);
+      coeffs = coeffs (p .«coeff_prob») _ (probs .0);
+      motion = mv (p .«mv_prob») _ (probs .1 .0);
+      luma = sized-array _ _ 4 (p .«mode_probs» .«intra_16x16_prob») _ (modes .0);
+      chroma = sized-array _ _ 3 (p .«mode_probs» .«intra_chroma_prob») _ (modes .1 .0);
+    }
