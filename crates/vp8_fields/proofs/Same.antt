@@ -13,8 +13,8 @@ use Rattle.bool_decoder.specs.Model.{Ran}
 use Rattle.bool_decoder.specs.declared.BoolDecoder.{BoolDecoder}
 use Rattle.vp8_fields.specs.Rows.{onto}
 use Rattle.bool_decoder.proofs.Same.{same-read}
-use Rattle.vp8_fields.specs.declared.arrays.ThreeBytes.{ThreeBytes}
-use Rattle.vp8_fields.specs.declared.arrays.FourBytes.{FourBytes}
+use Rattle.vp8_fields.specs.declared.modes.ThreeBytes.{ThreeBytes}
+use Rattle.vp8_fields.specs.declared.modes.FourBytes.{FourBytes}
 use Rattle.vp8_fields.specs.declared.segmentation.SegmentationRead.{SegmentationRead}
 use Rattle.vp8_fields.specs.declared.deltas.AdjustmentsRead.{AdjustmentsRead}
 use Rattle.vp8_fields.specs.declared.quantizer.QuantRead.{QuantRead}

@@ -1,4 +1,6 @@
-// Several numbers in a row, read over an array of old ones.
+// Several numbers in a row, read over an array of old ones. An array's length is part of its type, so each length has a function.
+use crate::modes::FourBytes;
+use crate::modes::ThreeBytes;
 use bool_decoder::BoolDecoder;
 use bool_decoder::reads::byte_or;
 use bool_decoder::reads::read_byte;
@@ -12,18 +14,6 @@ ghost use Rattle.vp8_fields.specs.Rows.{onto};
 // Four signed numbers, and the decoder after them.
 pub struct Ints {
     pub values: [i8; 4],
-    pub dec: BoolDecoder,
-}
-
-// Three bytes, and the decoder after them.
-pub struct ThreeBytes {
-    pub values: [u8; 3],
-    pub dec: BoolDecoder,
-}
-
-// Four bytes, and the decoder after them.
-pub struct FourBytes {
-    pub values: [u8; 4],
     pub dec: BoolDecoder,
 }
 

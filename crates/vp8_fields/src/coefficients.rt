@@ -18,7 +18,7 @@ ghost use Rattle.bool_decoder.specs.Model.{Good, Ran};
 ghost use Rattle.vp8_fields.specs.Rows.{coded, rowOver};
 
 // The probabilities of a block type, and the decoder after them.
-pub struct BandsRead {
+struct BandsRead {
     pub row: Bands,
     pub dec: BoolDecoder,
 }
@@ -52,9 +52,9 @@ fn bands(area: &[u8], table: &[u8; 1056], dec: BoolDecoder, at: usize, row: Band
     let mut next = dec;
     let mut i = 0;
     while i < 264 {
-        let found = seek(area, table, next, at + i, at + 264);
+        let found = seek(area, table, next, at, i, 264);
         next = found.dec;
-        i = found.at - at;
+        i = found.at;
         if i < 264 {
             let n = read_byte(area, next, 8);
             let j = i / 33;

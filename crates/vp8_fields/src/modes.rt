@@ -1,12 +1,22 @@
-// The intra mode probabilities of an inter frame: RFC 6386 sections 9.10 and 16.2.
-use crate::arrays::FourBytes;
-use crate::arrays::ThreeBytes;
+// The intra mode probabilities of an inter frame: RFC 6386 sections 9.10 and 16.1.
 use crate::arrays::four_bytes;
 use crate::arrays::three_bytes;
 use bool_decoder::BoolDecoder;
 ghost use Rattle.rfc6386.specs.Coded.{modes};
 ghost use Rattle.bool_decoder.specs.Model.{Good, Ran};
 ghost use Rattle.vp8_fields.specs.Rows.{onto};
+
+// Three bytes, and the decoder after them.
+pub struct ThreeBytes {
+    pub values: [u8; 3],
+    pub dec: BoolDecoder,
+}
+
+// Four bytes, and the decoder after them.
+pub struct FourBytes {
+    pub values: [u8; 4],
+    pub dec: BoolDecoder,
+}
 
 // intra_16x16_prob of section 19.2: all four anew where their common flag is set.
 pub fn parse_intra_16x16_prob_update(area: &[u8], dec: BoolDecoder, old: [u8; 4]) -> FourBytes

@@ -16,7 +16,7 @@ ghost use Rattle.bool_decoder.specs.Model.{Good, Ran};
 ghost use Rattle.vp8_fields.specs.Rows.{codedMv, rowOver};
 
 // The probabilities of one component, and the decoder after them.
-pub struct MvContextRead {
+struct MvContextRead {
     pub row: MvContext,
     pub dec: BoolDecoder,
 }

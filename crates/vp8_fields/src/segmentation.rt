@@ -1,7 +1,7 @@
 // Segmentation: RFC 6386 section 9.3.
-use crate::arrays::ThreeBytes;
 use crate::arrays::bytes_or;
 use crate::arrays::sints_or;
+use crate::modes::ThreeBytes;
 use bool_decoder::BoolDecoder;
 use bool_decoder::reads::flag_if;
 use vp8_records::Segmentation;

@@ -1,4 +1,4 @@
--- A rule of a table: one test, computed over all of it, and the rule at each entry from that. Assumes nothing.
+-- A rule of a table: one test, computed over all of it, and the rule at each entry from that.
 use Prim.Native.Nat.{ℕ, zero, suc, _<_}
 use native.Mathlib.Nat.{le-of-suc-le-suc, not-suc-le-zero}
 use mathlib.Core.Bool.{Bool, true, false, _&&_}

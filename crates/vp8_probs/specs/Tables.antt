@@ -1,4 +1,4 @@
--- The probability tables of RFC 6386, each as one flat run in the order of its indices.
+-- The probability tables of RFC 6386, each as one flat list in the order of its indices.
 use Prim.Native.Nat.{ℕ}
 use mathlib.Core.List.{List, [], _∷_}
 

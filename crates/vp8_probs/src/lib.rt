@@ -6,7 +6,7 @@ ghost use Rattle.vp8_probs.specs.Tables.{coeffUpdate};
 
 pub mod tables;
 
-// The update probabilities, made once for a whole header. None of them is zero.
+// The update probabilities of section 13.4, made once for a whole header. None of them is zero.
 pub fn coeff_update_probs() -> [u8; 1056]
     ensures { λ r. ⌜ (r ≡ coeffUpdate) × ((n : ℕ) → n < 1056 → 0 < getD r n 0) ⌝ }
 {

@@ -1,6 +1,6 @@
-// The tables, each as one flat run in the order of its indices. specs/Tables.antt has the same numbers a row a line.
+// The tables of probs.rs, each as one flat list in the order of its indices. specs/Tables.antt has the same numbers a row a line.
 
-// Two rows of 19: the vertical component, then the horizontal one.
+// The chances of motion updates, RFC 6386 section 17.2. Two rows of 19: the vertical component, then the horizontal one.
 pub const MV_UPDATE_PROBS: [u8; 38] = [
     237,
     246,
@@ -42,6 +42,7 @@ pub const MV_UPDATE_PROBS: [u8; 38] = [
     254,
 ];
 
+// The motion probabilities at the start, laid out alike.
 pub const MV_DEFAULT_PROBS: [u8; 38] = [
     162,
     128,
@@ -83,15 +84,20 @@ pub const MV_DEFAULT_PROBS: [u8; 38] = [
     254,
 ];
 
+// The luma modes of inter frames at the start: section 16.1.
 pub const NK_Y_MODE_PROBS: [u8; 4] = [112, 86, 140, 37];
 
+// The luma modes of key frames: section 11.2.
 pub const KF_Y_MODE_PROBS: [u8; 4] = [145, 156, 163, 128];
 
+// The chroma modes of inter frames at the start: section 16.1.
 pub const NK_UV_MODE_PROBS: [u8; 3] = [162, 101, 204];
 
+// The chroma modes of key frames: section 11.4.
 pub const KF_UV_MODE_PROBS: [u8; 3] = [142, 114, 183];
 
-// Entry (i, j, k, l) of the four levels stands at ((8i + j) * 3 + k) * 11 + l: a row here is the eleven of one (i, j, k).
+// The chances of coefficient updates: section 13.4. Entry (i, j, k, l) of the four levels stands at ((8i + j) * 3 + k) * 11 + l: a row here
+// is the eleven of one (i, j, k).
 pub const COEFF_UPDATE_PROBS: [u8; 1056] = [
     255,
     255,
@@ -1151,6 +1157,7 @@ pub const COEFF_UPDATE_PROBS: [u8; 1056] = [
     255,
 ];
 
+// The coefficient probabilities at the start, laid out alike: section 13.5.
 pub const COEFF_DEFAULT_PROBS: [u8; 1056] = [
     128,
     128,

@@ -1,4 +1,4 @@
--- The constant is the definition's table, by computing; its rule is `none-zero`. Assumes nothing.
+-- The constant is the definition's table, by computing; its rule is `none-zero`.
 use mathlib.Core.Path.{refl}
 use Rattle.vp8_probs.specs.Tables.{coeffUpdate}
 use Rattle.vp8_probs.proofs.Rule.{none-zero}

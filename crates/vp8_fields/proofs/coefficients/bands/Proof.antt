@@ -1,6 +1,6 @@
 -- A turn passes over the zeros before the next flag that is set, and writes the number after it: `reached` and `written`, over the numbers
 -- of the eight bands; the definition's reads by `leaf`.
-use Prim.Native.Nat.{ℕ, _+_, _-_, _/_, _<_}
+use Prim.Native.Nat.{ℕ, _-_, _/_, _<_}
 use native.Mathlib.Omega.{arith}
 use mathlib.Core.Path.{_≡_, refl, sym, ap, _∙_}
 use mathlib.Core.List.{List, [], append-nil}
@@ -50,12 +50,6 @@ wide c = ap (λ (l : List ℕ). length l) (c .pre .0)
 loop-holds : tie.Need-loop-holds Inv-loop μ-loop
 loop-holds c = (sized (c .before), begin _ (c .before .pre .2 .over))
 
-add-seek : tie.Need-add-seek Inv-loop μ-loop
-add-seek c = search needs
-
-add-seek-2 : tie.Need-add-seek-2 Inv-loop μ-loop
-add-seek-2 c = search needs
-
 seek-requires : tie.Need-seek-requires Inv-loop μ-loop
 seek-requires c κs =
     let at-loop = c .before .before in
@@ -68,17 +62,14 @@ seek-requires c κs =
       good = record { over = t .over; room = omega (arith, t .most, start .pre .2 .room, lt) };
     }
 
-sub-i : tie.Need-sub-i Inv-loop μ-loop
-sub-i c = omega (arith, lies (c .before .before .seek .ensures) .0)
-
 read-byte-requires : tie.Need-read-byte-requires Inv-loop μ-loop
 read-byte-requires c κs =
-    let at-seek = c .before .before .before in
+    let at-seek = c .before .before in
     let at-loop = at-seek .before .before .before in
     let start = at-loop .before .before in
     let f = rw (start .pre .0) at (at-seek .seek .ensures) in
     let lt = c .if1 .taken in
-    let r = reached coeffUpdate (start .args .at) f (omega (arith, lt, lies f .0)) (omega (arith, long start)) (at-loop .loop .inv .1) in
+    let r = reached coeffUpdate (start .args .at) f lt (omega (arith, long start)) (at-loop .loop .inv .1) in
     (omega arith, record { over = r .0 .set .over; room = omega (arith, r .0 .set .most, r .1 .ran .most, start .pre .2 .room, lt) })
 
 mul-put : tie.Need-mul-put Inv-loop μ-loop
@@ -102,30 +93,27 @@ add-i c = search needs
 loop-less : tie.Need-loop-less Inv-loop μ-loop
 loop-less c =
     let at-if = c .before .before .before .before in
-    omega (arith, at-if .if1 .taken, lies (at-if .before .before .before .seek .ensures) .0)
+    omega (arith, at-if .if1 .taken, lies (at-if .before .before .seek .ensures) .0)
 
 loop-again : tie.Need-loop-again Inv-loop μ-loop
 loop-again c =
     let at-byte = c .before .before .before in
     let at-if = at-byte .before in
-    let at-seek = at-if .before .before .before in
+    let at-seek = at-if .before .before in
     let at-loop = at-seek .before .before .before in
     let start = at-loop .before .before in
     let l = at-loop .loop in
     let j = at-seek .seek .result .at in
-    let k = j - start .args .at in
     let f = rw (start .pre .0) at (at-seek .seek .ensures) in
     let lt = at-if .if1 .taken in
-    let from = lies f .0 in
-    let place : start .args .at + k ≡ j = omega (arith, from) in
-    let within : k < length (flatBands (start .args .row)) = omega (arith, long start, lt) in
-    let r = reached coeffUpdate (start .args .at) f (omega (arith, lt, from)) (omega (arith, long start)) (l .inv .1) in
+    let within : j < length (flatBands (start .args .row)) = omega (arith, long start, lt) in
+    let r = reached coeffUpdate (start .args .at) f lt (omega (arith, long start)) (l .inv .1) in
     let p = c .before .put in (
       (
-        length-set (l .out .v) (k / 33) (p .result) ∙ l .inv .0 .0,
-        every-set SizedContexts (l .out .v) (k / 33) (p .result) (l .inv .0 .1) (p .ensures .0),
+        length-set (l .out .v) (j / 33) (p .result) ∙ l .inv .0 .0,
+        every-set SizedContexts (l .out .v) (j / 33) (p .result) (l .inv .0 .1) (p .ensures .0),
       ),
-      written coeffUpdate (start .args .at) j (l .out) (p .result) (record { v = [] }) (at-byte .read-byte .result .value) place (l .inv .0)
+      written coeffUpdate (start .args .at) (l .out) (p .result) (record { v = [] }) (at-byte .read-byte .result .value) (l .inv .0)
           within lt (r .1) (r .0 .set) (at-byte .read-byte .ensures .ran) (p .ensures .1),
     )
 
@@ -134,12 +122,12 @@ loop-less-2 c = search needs
 
 loop-again-2 : tie.Need-loop-again-2 Inv-loop μ-loop
 loop-again-2 c =
-    let at-seek = c .before .before .before in
+    let at-seek = c .before .before in
     let at-loop = at-seek .before .before .before in
     let start = at-loop .before .before in
-    let f = rw (start .pre .0) at (at-seek .seek .ensures) in
     let l = at-loop .loop in
-    (l .inv .0, ended coeffUpdate (start .args .at) f (omega (arith, c .if1 .left, lies f .0)) (omega (arith, long start)) (l .inv .1))
+    let f = rw (start .pre .0) at (at-seek .seek .ensures) in
+    (l .inv .0, ended coeffUpdate (start .args .at) f (c .if1 .left) (omega (arith, long start)) (l .inv .1))
 
 returns : tie.Need-returns Inv-loop μ-loop
 unfolding coeffUpdate
@@ -160,10 +148,7 @@ bands-spec =
     Inv-loop
     μ-loop
     loop-holds
-    add-seek
-    add-seek-2
     seek-requires
-    sub-i
     read-byte-requires
     mul-put
     element-copy-out-put
