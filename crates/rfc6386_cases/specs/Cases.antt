@@ -1,10 +1,9 @@
 -- The worked cases that are proved (docs/RULES.md numbers them), as one list: 1 to 5 are frames, 13 to 18 reads of the bare decoder. Each
 -- says what goes in and what comes out.
 use Prim.Native.Nat.{ℕ}
-use mathlib.Core.Bool.{Bool, true, false, not, _&&_}
+use mathlib.Core.Bool.{Bool, true, false}
 use mathlib.Core.List.{List, [], _∷_}
-use lib.Dec.{eqb}
-use lib.IntN.{ℤ, pos, negsuc}
+use lib.IntN.{pos}
 use lib.ListN.{replicate}
 use Rattle.vp8_records.specs.declared.Parser.{Parser}
 use Rattle.vp8_records.specs.declared.Header.{Header}
@@ -37,19 +36,6 @@ marked = record {
   «mv_prob» = laidMv (replicate 38 7);
   «mode_probs» = record { «intra_16x16_prob» = replicate 4 8; «intra_chroma_prob» = replicate 3 9 };
 }
-
--- whether two runs are as long as each other and differ in every number
-abbrev pub same : ℤ → ℤ → Bool
-same (pos m) (pos n) = eqb m n
-same (pos m) (negsuc n) = false
-same (negsuc m) (pos n) = false
-same (negsuc m) (negsuc n) = eqb m n
-
-unfoldable pub apart : List ℤ → List ℤ → Bool
-apart [] [] = true
-apart [] (y ∷ ys) = false
-apart (x ∷ xs) [] = false
-apart (x ∷ xs) (y ∷ ys) = not (same x y) && apart xs ys
 
 -- one call: the outcome's number, what it carries, the header, the state left
 pub record Seen : Type 0 where

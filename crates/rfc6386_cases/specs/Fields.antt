@@ -13,7 +13,6 @@ use Rattle.vp8_records.specs.declared.Parsed.{Parsed}
 use Rattle.vp8_records.specs.declared.Outcome.the-variants.{Accepted}
 use Rattle.vp8_records.specs.Layout.{laidCoeffs, laidMv}
 use Rattle.vp8_records.specs.Start.{fresh}
-use Rattle.rfc6386.specs.Call.{call}
 use Rattle.rfc6386_cases.specs.Cases.{marked}
 
 abbrev keyBytes : List ℕ
@@ -515,10 +514,6 @@ pub record Example : Type 0 where
   pub bytes : List ℕ
   pub over : Parser
   pub answer : Parsed
-
--- the example with the answer that the definition gives
-abbrev pub answered : Example → Example
-answered x = record { bytes = x .bytes; over = x .over; answer = call (x .over) (x .bytes) }
 
 abbrev accepts : List ℕ → Parser → Header → Parser → Example
 accepts f p h q = record { bytes = f; over = p; answer = record { outcome = Accepted; header = h; parser = q } }
