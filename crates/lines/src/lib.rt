@@ -31,7 +31,7 @@ pub fn take(buf: &mut [u8], n: usize) -> usize
     }
 }
 
-// A number, or how the input ends before it: at once, or in its midst.
+// A number, its bytes least significant first, or how the input ends before it: at once, or in its midst.
 pub enum Number {
     Is(u32),
     End,
@@ -52,12 +52,14 @@ fn le2(b: &[u8; 2]) -> u32
 }
 
 fn le4(b: &[u8; 4]) -> u32
-    ensures { λ r. ⌜ r ≡ getD (now (b .entry)) 0 0 + getD (now (b .entry)) 1 0 * 256 + getD (now (b .entry)) 2 0 * 65536 + getD (now (b .entry)) 3 0 * 16777216 ⌝ }
+    ensures { λ r. ⌜ r ≡ getD (now (b .entry)) 0 0 + getD (now (b .entry)) 1 0 * 256
+        + getD (now (b .entry)) 2 0 * 65536 + getD (now (b .entry)) 3 0 * 16777216 ⌝ }
+    ensures { λ r. ⌜ r < 4294967296 ⌝ }
 {
     wide(b[0]) + wide(b[1]) * 256 + wide(b[2]) * 65536 + wide(b[3]) * 16777216
 }
 
-// The next byte, two bytes or four bytes, the least significant first.
+// The next byte.
 pub fn take_byte() -> Number
     ensures { λ r. ⌜ Below 256 r ⌝ }
 {
@@ -69,6 +71,7 @@ pub fn take_byte() -> Number
     Number::Is(wide(b[0]))
 }
 
+// The next two bytes.
 pub fn take_le2() -> Number
     ensures { λ r. ⌜ Below 65536 r ⌝ }
 {
@@ -83,7 +86,10 @@ pub fn take_le2() -> Number
     Number::Is(le2(&b))
 }
 
-pub fn take_le4() -> Number {
+// The next four bytes.
+pub fn take_le4() -> Number
+    ensures { λ r. ⌜ Below 4294967296 r ⌝ }
+{
     let mut b = [0u8; 4];
     let n = io::read_full(libc::STDIN_FILENO, &mut b);
     if n == 0 {

@@ -2,3 +2,4 @@
 pub mod Puts
 pub mod Spelling
 pub mod Templates
+pub mod Numerals

@@ -35,7 +35,8 @@ unfolding puts
 puts-nil t = refl
 
 -- a turn of the loop
-pub puts-turn : (t : Text) (xs : List ℕ) (i : ℕ) → i < length xs → put (puts t (take i xs)) (getD xs i 0) ≡ puts t (take (i + 1) xs)
+pub puts-turn : (t : Text) (xs : List ℕ) (i : ℕ) → i < length xs
+    → put (puts t (take i xs)) (getD xs i 0) ≡ puts t (take (i + 1) xs)
 unfolding puts
 puts-turn t xs i h = rw (add-one i, take-suc xs i 0 h, puts-append t (take i xs) (getD xs i 0 ∷ []))
 
@@ -48,7 +49,12 @@ pub hex-turn : (t : Text) (xs : List ℕ) (i : ℕ) → i < length xs
     → put (put (puts t (hexOf (take i xs))) (glyph (getD xs i 0 / 16))) (glyph (getD xs i 0 % 16)) ≡ puts t (hexOf (take (i + 1) xs))
 unfolding puts hexOf
 hex-turn t xs i h =
-    rw (add-one i, take-suc xs i 0 h, hex-append (take i xs) (getD xs i 0 ∷ []), puts-append t (hexOf (take i xs)) (hexOf (getD xs i 0 ∷ [])))
+    rw (
+      add-one i,
+      take-suc xs i 0 h,
+      hex-append (take i xs) (getD xs i 0 ∷ []),
+      puts-append t (hexOf (take i xs)) (hexOf (getD xs i 0 ∷ [])),
+    )
 
 -- where there is room for all of it, the text is the old one and the piece
 pub fits : (buffer : List ℕ) (n : ℕ) (xs : List ℕ) → n + length xs ≤ length buffer

@@ -1,5 +1,5 @@
--- A template byte by byte: a bar puts the next number, or nothing where there is none, and any other byte itself. Each law is the definition's
--- step at what is left of the template and of the numbers.
+-- A template byte by byte: a bar puts the next number, or nothing where there is none, and any other byte itself. Each law is the
+-- definition's step at what is left of the template and of the numbers.
 use Prim.Native.Nat.{ℕ, _+_, _≤_, _<_}
 use native.Mathlib.Numerals.{add-one}
 use mathlib.Core.Path.{_≡_, ap, sym, _∙_}
@@ -37,7 +37,9 @@ other t u cs ns b h e = rw (e, other-step b cs ns h) (sym (puts-cons t b _))
 pub fill-turn : (t u v : Text) (ts ms ns : List ℕ) (i : ℕ) → i < length ts
     → ((cs : List ℕ) → puts v (filled cs ms) ≡ puts u (filled (getD ts i 0 ∷ cs) ns))
     → puts u (filled (drop i ts) ns) ≡ t → puts v (filled (drop (i + 1) ts) ms) ≡ t
-fill-turn t u v ts ms ns i h f e = f (drop (i + 1) ts) ∙ ap (λ (l : List ℕ). puts u (filled l ns)) (sym (drop-cons ts i 0 h ∙ ap (λ (k : ℕ). getD ts i 0 ∷ drop k ts) (sym (add-one i)))) ∙ e
+fill-turn t u v ts ms ns i h f e =
+    let left = drop-cons ts i 0 h ∙ ap (λ (k : ℕ). getD ts i 0 ∷ drop k ts) (sym (add-one i)) in
+    f (drop (i + 1) ts) ∙ ap (λ (l : List ℕ). puts u (filled l ns)) (sym left) ∙ e
 
 pub fill-end : (t u : Text) (ts ns : List ℕ) (i : ℕ) → length ts ≤ i → puts u (filled (drop i ts) ns) ≡ t → u ≡ t
 unfolding filled

@@ -1,5 +1,5 @@
 -- Numbers as text, in ASCII.
-use Prim.Native.Nat.{ℕ, zero, suc, _+_, _/_, _%_}
+use Prim.Native.Nat.{ℕ, zero, suc, _+_, _-_, _*_, _/_, _%_}
 use mathlib.Core.Bool.{cond}
 use mathlib.Core.List.{List, [], _∷_, _++_}
 use lib.Dec.{ltb}
@@ -27,3 +27,8 @@ decimalOf n = digitsOf (suc n) n
 unfoldable pub signedOf : ℤ → List ℕ
 signedOf (pos n) = decimalOf n
 signedOf (negsuc n) = 45 ∷ decimalOf (suc n)
+
+-- the number that decimal digits denote, after those that denote a
+unfoldable pub valueOf : ℕ → List ℕ → ℕ
+valueOf a [] = a
+valueOf a (d ∷ ds) = valueOf (a * 10 + (d - 48)) ds

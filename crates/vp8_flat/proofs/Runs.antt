@@ -1,5 +1,5 @@
--- Runs in a lent buffer: a loop that puts a run for each element of an array has put the runs of the first i after i turns, by `puts-append`;
--- and a run as long as the buffer fills it, by `fits`.
+-- Runs in a lent buffer: a loop that puts a run for each element of an array has put the runs of the first i after i turns, by
+-- `puts-append`; and a run as long as the buffer fills it, by `fits`.
 use Prim.Native.Nat.{ℕ, _+_, _≤_, _<_}
 use native.Mathlib.Omega.{arith}
 use native.Mathlib.Numerals.{add-one}
@@ -32,18 +32,20 @@ pub begin : {A : Type 0} {f : A → List ℕ} {n : ℕ} {out : List ℕ} {at : �
 unfolding joined
 begin {out} {at} = record { count = omega arith; size = refl; same = sym (puts-nil (text out at)) }
 
-pub turn : {A : Type 0} {f : A → List ℕ} {n : ℕ} {out₀ : List ℕ} {at : ℕ} {xs : List A} {out : List ℕ} {to i : ℕ} (z : A) {out' : List ℕ} {to' : ℕ}
+pub turn : {A : Type 0} {f : A → List ℕ} {n : ℕ} {out₀ : List ℕ} {at : ℕ} {xs : List A} {out : List ℕ} {to i : ℕ} (z : A)
+    {out' : List ℕ} {to' : ℕ}
     → Put f n out₀ at xs out to i → i < n → length xs ≡ n → length out' ≡ length out → text out' to' ≡ puts (text out to) (f (getD xs i z))
     → Put f n out₀ at xs out' to' (i + 1)
 turn {f} {out₀} {at} {xs} {i} z p h m s e =
     let x = getD xs i z in
+    let more = ap (λ (k : ℕ). take k xs) (add-one i) ∙ take-suc xs i z (omega arith) in
     record {
       count = omega arith;
       size = s ∙ p .size;
       same =
           e ∙ ap (λ (t : Text). puts t (f x)) (p .same)
           ∙ sym (puts-append (text out₀ at) (joined f (take i xs)) (f x))
-          ∙ ap (puts (text out₀ at)) (sym (joined-snoc f (take i xs) x) ∙ ap (joined f) (sym (ap (λ (k : ℕ). take k xs) (add-one i) ∙ take-suc xs i z (omega arith))));
+          ∙ ap (puts (text out₀ at)) (sym (joined-snoc f (take i xs) x) ∙ ap (joined f) (sym more));
     }
 
 pub end : {A : Type 0} {f : A → List ℕ} {n : ℕ} {out₀ : List ℕ} {at : ℕ} {xs : List A} {out : List ℕ} {to i : ℕ}

@@ -1,4 +1,4 @@
--- The records as runs of bytes: the kept numbers as `rfc6386_history` counts them, each as its byte. Assumes nothing.
+-- The records as runs of bytes: the kept numbers as `rfc6386_history` counts them, each as its byte.
 use Prim.Native.Nat.{ℕ}
 use mathlib.Core.Bool.{Bool, true, false}
 use mathlib.Core.List.{List, [], _∷_, _++_, map}

@@ -15,6 +15,7 @@ pub struct Carried {
     pub b: u64,
 }
 
+// The number and what is carried.
 pub fn refusal(outcome: Outcome) -> Carried
     ensures { λ r. ⌜ r ≡ carriedOf outcome ⌝ }
 {
@@ -57,7 +58,7 @@ pub fn refusal(outcome: Outcome) -> Carried
     }
 }
 
-// How many partitions hold coefficients.
+// How many partitions hold coefficients (RFC 6386 section 9.5).
 pub fn partitions(log2: u8) -> u32
     ensures { λ r. ⌜ (r ≡ partitionCount log2) × (1 ≤ r) × (r ≤ 8) ⌝ }
 {
@@ -105,6 +106,7 @@ pub fn shape(h: Header) -> [u32; 16]
     ]
 }
 
+// The quantizer index and the five deltas, each as its byte (RFC 6386 section 9.6).
 pub fn quantizers(q: QuantIndices) -> [u32; 6]
     ensures { λ r. ⌜ r ≡ quantOf q ⌝ }
 {

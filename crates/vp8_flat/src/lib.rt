@@ -1,5 +1,5 @@
 // The records as runs: the 1,126 kept numbers of a parser, the probabilities and the numbers of a header, in the order of parser.rs.
-// A signed number is its two's complement byte, a flag 0 or 1. The writers put a run into a lent buffer, as `lines` does.
+// A signed number is its two's complement byte, a flag 0 or 1. The writers put a run into a lent buffer, as `text` does.
 pub mod header;
 
 use vp8_records::Bands;
@@ -20,12 +20,14 @@ ghost use Rattle.text.specs.Text.{text, puts};
 ghost use Rattle.vp8_records.specs.Layout.{flatTokens, flatContexts, flatBands, flatCoeffs, flatMvContext, flatMv};
 ghost use Rattle.vp8_flat.specs.Bytes.{bitOf, flatModes, segmentationBytes, adjustmentBytes, keptBytes};
 
+// A flag as 0 or 1.
 pub fn bit(b: bool) -> u8
     ensures { λ r. ⌜ r ≡ bitOf b ⌝ }
 {
     if b { 1 } else { 0 }
 }
 
+// The two's complement byte.
 pub fn byte_of(x: i8) -> u8
     ensures { λ r. ⌜ r ≡ ofZ w8 x ⌝ }
 {
@@ -80,6 +82,7 @@ fn put_bands(out: &mut [u8], at: usize, bands: Bands) -> usize
     to
 }
 
+// The 1,056 coefficient probabilities (RFC 6386 section 13.4).
 pub fn put_coeffs(out: &mut [u8], at: usize, coeffs: CoeffProbs) -> usize
     ensures { λ r. ⌜ text (now (out .exit)) r ≡ puts (text (now (out .entry)) at) (flatCoeffs coeffs) ⌝ }
 {
@@ -99,6 +102,7 @@ fn put_context(out: &mut [u8], at: usize, context: MvContext) -> usize
     text::bytes(out, at, &v)
 }
 
+// The 38 motion probabilities (section 17.2).
 pub fn put_motion(out: &mut [u8], at: usize, motion: MvProbs) -> usize
     ensures { λ r. ⌜ text (now (out .exit)) r ≡ puts (text (now (out .entry)) at) (flatMv motion) ⌝ }
 {
@@ -111,6 +115,7 @@ pub fn put_motion(out: &mut [u8], at: usize, motion: MvProbs) -> usize
     to
 }
 
+// The seven mode probabilities (section 16.2).
 pub fn put_modes(out: &mut [u8], at: usize, modes: ModeProbs) -> usize
     ensures { λ r. ⌜ text (now (out .exit)) r ≡ puts (text (now (out .entry)) at) (flatModes modes) ⌝ }
 {
@@ -168,6 +173,7 @@ pub fn put_parser(out: &mut [u8], at: usize, parser: Parser) -> usize
     put_modes(out, to, modes)
 }
 
+// All kept numbers, as an array.
 pub fn kept(parser: Parser) -> [u8; 1126]
     ensures { λ r. ⌜ r ≡ keptBytes parser ⌝ }
 {
@@ -176,6 +182,7 @@ pub fn kept(parser: Parser) -> [u8; 1126]
     out
 }
 
+// The coefficient probabilities, as an array.
 pub fn coeffs(c: CoeffProbs) -> [u8; 1056]
     ensures { λ r. ⌜ r ≡ flatCoeffs c ⌝ }
 {
@@ -184,6 +191,7 @@ pub fn coeffs(c: CoeffProbs) -> [u8; 1056]
     out
 }
 
+// The motion probabilities, as an array.
 pub fn motion(m: MvProbs) -> [u8; 38]
     ensures { λ r. ⌜ r ≡ flatMv m ⌝ }
 {
@@ -192,6 +200,7 @@ pub fn motion(m: MvProbs) -> [u8; 38]
     out
 }
 
+// The mode probabilities, as an array.
 pub fn modes(m: ModeProbs) -> [u8; 7]
     ensures { λ r. ⌜ r ≡ flatModes m ⌝ }
 {

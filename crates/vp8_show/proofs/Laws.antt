@@ -1,5 +1,5 @@
--- The lines of the partitions one by one, in terms of what is left; the words of a refusal by its number; and the two examples of the text, by
--- computation.
+-- The lines of the partitions one by one, in terms of what is left; the words of a refusal by its number; and two examples of the text,
+-- by computation.
 use Prim.Native.Nat.{ℕ, suc, _+_, _≤_, _<_}
 use native.Mathlib.Omega.{arith}
 use native.Mathlib.Numerals.{add-one}
@@ -22,14 +22,14 @@ use Rattle.vp8_records.specs.Outcome.{numberOf}
 use Rattle.vp8_records.specs.Start.{fresh, blank}
 use Rattle.rfc6386.specs.Call.{answer}
 use Rattle.text.specs.Text.{Text, puts}
-use Rattle.text.specs.Digits.{digitsOf, decimalOf, signedOf}
+use Rattle.text.specs.Digits.{hexOf, digitsOf, decimalOf, signedOf}
 use Rattle.text.specs.Template.{ascii, filled}
 use Rattle.text.proofs.Puts.{puts-append, puts-nil}
 use Rattle.vp8_flat.specs.declared.header.Carried.{Carried}
 use Rattle.vp8_flat.specs.Numbers.{shapeOf, carriedOf, partitionCount}
 use Rattle.vp8_show.specs.Refusal.{carriedText, refusalText}
 use Rattle.vp8_show.specs.Printed.{frameLine, partitionLine, partitionLines, firstStart, acceptedText, printed}
-use Rattle.vp8_show.specs.Dumped.{headerText, answerText}
+use Rattle.vp8_show.specs.Dumped.{deltaText, headerText, answerText}
 
 -- a turn of the loop over the first `count` sizes, and its end
 pub turn : (t u v : Text) (sizes : List ℕ) (count i from n : ℕ) → i < count → count ≤ length sizes → n ≡ getD sizes i 0
@@ -52,7 +52,8 @@ pub end : (t u : Text) (sizes : List ℕ) (count i from : ℕ) → count ≤ i �
     → puts u (partitionLines i from (drop i (take count sizes))) ≡ t → u ≡ t
 unfolding partitionLines
 end t u sizes count i from h m q =
-    let none : drop i (take count sizes) ≡ [] = drop-of-length-le (take count sizes) {i = i} (omega (arith, length-take-le count sizes m)) in
+    let short : length (take count sizes) ≤ i = omega (arith, length-take-le count sizes m) in
+    let none : drop i (take count sizes) ≡ [] = drop-of-length-le (take count sizes) short in
     sym (puts-nil u) ∙ sym (ap (λ (l : List ℕ). puts u (partitionLines i from l)) none) ∙ q
 
 -- nine numbers of the flat header
@@ -64,7 +65,8 @@ unfolding frameLine
 frame-is h s e = rw e
 
 pub line-is : (i s n : ℕ)
-    → (ascii "part " ++ decimalOf i) ++ ((ascii " start " ++ decimalOf s) ++ ((ascii " length " ++ decimalOf n) ++ (10 ∷ []))) ≡ partitionLine i s n
+    → (ascii "part " ++ decimalOf i) ++ ((ascii " start " ++ decimalOf s) ++ ((ascii " length " ++ decimalOf n) ++ (10 ∷ [])))
+    ≡ partitionLine i s n
 unfolding partitionLine filled
 line-is i s n = refl
 
@@ -122,6 +124,14 @@ pub signed-is : (z r : ℤ) → SFits w8 z → r ≡ toZ w8 (ofZ w8 z) → signe
 signed-is z r f e =
     ap (λ (y : ℤ). signedOf (toZ w32 (ofZ w32 y))) (e ∙ toZ-ofZ {w = w8} f)
     ∙ ap signedOf (toZ-ofZ {w = w32} (sfits-widen {w = w8} {w′ = w32} tt f))
+
+-- a delta read back from the byte that a record holds
+pub delta-is : (t u : Text) (z : ℤ) → SFits w8 z → u ≡ puts t (deltaText (toZ w8 (ofZ w8 z))) → u ≡ puts t (deltaText z)
+delta-is t u z f e = e ∙ ap (λ (y : ℤ). puts t (deltaText y)) (toZ-ofZ {w = w8} f)
+
+-- a name, and bytes that another list says
+pub hex-is : (t u : Text) (name xs ys : List ℕ) → u ≡ puts t (name ++ hexOf xs) → xs ≡ ys → u ≡ puts t (name ++ hexOf ys)
+hex-is t u name xs ys e d = e ∙ ap (λ (l : List ℕ). puts t (name ++ hexOf l)) d
 
 -- examples, by computation
 refusal-example : printed (answer (InvalidPartitionSize 11 10) blank fresh) ≡ ascii "refused 3 end 11 length 10\n"

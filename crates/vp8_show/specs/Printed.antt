@@ -1,5 +1,5 @@
--- What the printing program prints of an answer: of an accepted frame what it is, and where each partition stands in it; of a refused one its
--- number and what 2 and 3 carry. Flags are 0 or 1, numbers decimal.
+-- What the printing program prints of an answer: of an accepted frame what it is, and where each partition stands in it; of a refused one
+-- its number and what 2 and 3 carry. Flags are 0 or 1, numbers decimal.
 use Prim.Native.Nat.{ℕ, _+_, _-_, _*_}
 use mathlib.Core.Bool.{cond}
 use mathlib.Core.List.{List, [], _∷_, _++_}

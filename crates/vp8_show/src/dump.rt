@@ -9,7 +9,8 @@ ghost use mathlib.Core.Path.{_≡_};
 ghost use mathlib.Core.List.{_++_};
 ghost use Rattle.text.specs.Text.{text, puts};
 ghost use Rattle.text.specs.Digits.{hexOf};
-ghost use Rattle.vp8_show.specs.Dumped.{shapeText, deltaText, quantText, flagsText, probsText, tailText, headerText, answerText, dumped};
+ghost use Rattle.vp8_show.specs.Dumped.{shapeText, deltaText, quantText, flagsText};
+ghost use Rattle.vp8_show.specs.Dumped.{probsText, tailText, headerText, answerText, dumped};
 
 // The tag, the sizes, the filter and the partitions.
 fn shape(out: &mut [u8], at: usize, h: Header) -> usize

@@ -1,4 +1,5 @@
--- The two laws of `Spelling`: below 10 one digit, else the digits of the tenth and the last one. The measure is the number, since a tenth is less.
+-- The two laws of `Spelling`: below 10 one digit, else the digits of the tenth and the last one. The measure is the number, since a
+-- tenth is less.
 use Prim.Native.Nat.{ℕ, _<_}
 use borrow.Author.Needs.{needs}
 use borrow.Fn.Kinds.{In}
@@ -22,33 +23,42 @@ given t = and 1 decimal-kinds.ps (is 1 decimal-kinds.ps μ-decimal t) decimal.Pr
 abbrev below : ℕ → In 1 decimal-kinds.ps
 below t = and 1 decimal-kinds.ps (Falls 1 decimal-kinds.ps _<_ μ-decimal t) decimal.Pre
 
-digit-requires : (t : ℕ) → lts.Need-digit-requires (digit.Asked, digit.Learnt, byte.Asked, byte.Learnt, below t, decimal.Post) (given t) decimal.Post
+digit-requires : (t : ℕ)
+    → lts.Need-digit-requires (digit.Asked, digit.Learnt, byte.Asked, byte.Learnt, below t, decimal.Post) (given t) decimal.Post
 digit-requires t c κs = search needs
 
-byte-requires : (t : ℕ) → lts.Need-byte-requires (digit.Asked, digit.Learnt, byte.Asked, byte.Learnt, below t, decimal.Post) (given t) decimal.Post
+byte-requires : (t : ℕ)
+    → lts.Need-byte-requires (digit.Asked, digit.Learnt, byte.Asked, byte.Learnt, below t, decimal.Post) (given t) decimal.Post
 byte-requires t c κs = search needs
 
-same-length : (t : ℕ) → lts.Need-same-length (digit.Asked, digit.Learnt, byte.Asked, byte.Learnt, below t, decimal.Post) (given t) decimal.Post
+same-length : (t : ℕ)
+    → lts.Need-same-length (digit.Asked, digit.Learnt, byte.Asked, byte.Learnt, below t, decimal.Post) (given t) decimal.Post
 same-length t c = search needs
 
-returns : (t : ℕ) → lts.Need-returns (digit.Asked, digit.Learnt, byte.Asked, byte.Learnt, below t, decimal.Post) (given t) decimal.Post
+returns : (t : ℕ)
+    → lts.Need-returns (digit.Asked, digit.Learnt, byte.Asked, byte.Learnt, below t, decimal.Post) (given t) decimal.Post
 returns t c =
     let at-byte = c .before .before in
     puts-one _ _ _ _ (at-byte .before .before .before .if1 .taken) (at-byte .before .digit .ensures) (at-byte .byte .ensures)
 
-decimal-requires : (t : ℕ) → lts.Need-decimal-requires (digit.Asked, digit.Learnt, byte.Asked, byte.Learnt, below t, decimal.Post) (given t) decimal.Post
+decimal-requires : (t : ℕ)
+    → lts.Need-decimal-requires (digit.Asked, digit.Learnt, byte.Asked, byte.Learnt, below t, decimal.Post) (given t) decimal.Post
 decimal-requires t c κs = (falls _ _ (c .before .before .before .pre .0) (c .before .if1 .left), tt)
 
-digit-requires-2 : (t : ℕ) → lts.Need-digit-requires-2 (digit.Asked, digit.Learnt, byte.Asked, byte.Learnt, below t, decimal.Post) (given t) decimal.Post
+digit-requires-2 : (t : ℕ)
+    → lts.Need-digit-requires-2 (digit.Asked, digit.Learnt, byte.Asked, byte.Learnt, below t, decimal.Post) (given t) decimal.Post
 digit-requires-2 t c κs = search needs
 
-byte-requires-2 : (t : ℕ) → lts.Need-byte-requires-2 (digit.Asked, digit.Learnt, byte.Asked, byte.Learnt, below t, decimal.Post) (given t) decimal.Post
+byte-requires-2 : (t : ℕ)
+    → lts.Need-byte-requires-2 (digit.Asked, digit.Learnt, byte.Asked, byte.Learnt, below t, decimal.Post) (given t) decimal.Post
 byte-requires-2 t c κs = search needs
 
-same-length-2 : (t : ℕ) → lts.Need-same-length-2 (digit.Asked, digit.Learnt, byte.Asked, byte.Learnt, below t, decimal.Post) (given t) decimal.Post
+same-length-2 : (t : ℕ)
+    → lts.Need-same-length-2 (digit.Asked, digit.Learnt, byte.Asked, byte.Learnt, below t, decimal.Post) (given t) decimal.Post
 same-length-2 t c = search needs
 
-returns-2 : (t : ℕ) → lts.Need-returns-2 (digit.Asked, digit.Learnt, byte.Asked, byte.Learnt, below t, decimal.Post) (given t) decimal.Post
+returns-2 : (t : ℕ)
+    → lts.Need-returns-2 (digit.Asked, digit.Learnt, byte.Asked, byte.Learnt, below t, decimal.Post) (given t) decimal.Post
 returns-2 t c =
     let at-byte = c .before .before in
     let at-decimal = at-byte .before .before .before .before .before in

@@ -33,10 +33,15 @@ loop-less c = search needs
 
 loop-again : tie.Need-loop-again Inv-loop μ-loop
 loop-again c =
-    let b = c .before .before .byte in
-    let l = c .before .before .before .before .before .before .loop in
-    let done = puts-turn (text (c .before .before .before .before .before .before .before .before .before .args .out .now) (c .before .before .before .before .before .before .before .before .before .args .at)) (c .before .before .before .before .before .before .before .before .before .args .src .now) (l .i) (c .before .before .before .before .before .loop-test .taken) in
-    (omega arith, b .kept .0 ∙ l .inv .1, b .ensures ∙ ap (λ (t : Text). put t (getD (c .before .before .before .before .before .before .before .before .before .args .src .now) (l .i) 0)) (l .inv .2) ∙ done)
+    let at-byte = c .before .before in
+    let at-test = at-byte .before .before .before in
+    let l = at-test .before .loop in
+    let s = at-test .before .before .before .before .args in
+    let done = puts-turn (text (s .out .now) (s .at)) (s .src .now) (l .i) (at-test .loop-test .taken) in (
+      omega arith,
+      at-byte .byte .kept .0 ∙ l .inv .1,
+      at-byte .byte .ensures ∙ ap (λ (t : Text). put t (getD (s .src .now) (l .i) 0)) (l .inv .2) ∙ done,
+    )
 
 same-length : tie.Need-same-length Inv-loop μ-loop
 same-length c = search needs

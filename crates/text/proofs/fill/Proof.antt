@@ -38,8 +38,11 @@ loop-again : tie.Need-loop-again Inv-loop μ-loop
 loop-again c =
     let at-byte = c .before .before in
     let at-test = at-byte .before .before .before in
-    let inv = at-test .before .loop .inv in
-    (omega arith, at-byte .fill-byte .kept .0 ∙ inv .1, fill-turn _ _ _ _ _ _ _ (at-test .loop-test .taken) (at-byte .fill-byte .ensures) (inv .2))
+    let inv = at-test .before .loop .inv in (
+      omega arith,
+      at-byte .fill-byte .kept .0 ∙ inv .1,
+      fill-turn _ _ _ _ _ _ _ (at-test .loop-test .taken) (at-byte .fill-byte .ensures) (inv .2),
+    )
 
 same-length : tie.Need-same-length Inv-loop μ-loop
 same-length c = search needs

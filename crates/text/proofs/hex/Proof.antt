@@ -13,7 +13,8 @@ use Rattle.text.proofs.hex.Statement.{statement}
 use Rattle.text.proofs.hex.Tie as tie
 
 abbrev Inv-loop : tie.InvT-loop
-Inv-loop out₀ at src to₀ i₀ out to i = (i ≤ length src) × (length out ≡ length out₀) × (text out to ≡ puts (text out₀ at) (hexOf (take i src)))
+Inv-loop out₀ at src to₀ i₀ out to i =
+    (i ≤ length src) × (length out ≡ length out₀) × (text out to ≡ puts (text out₀ at) (hexOf (take i src)))
 
 abbrev μ-loop : tie.MeasureT-loop
 μ-loop out₀ at src to₀ i₀ out to i = length src - i
@@ -48,14 +49,21 @@ loop-less c = search needs
 
 loop-again : tie.Need-loop-again Inv-loop μ-loop
 loop-again c =
-    let b = c .before .before .byte2 in
-    let a = c .before .before .before .before .before .before .before .before .byte in
-    let l = c .before .before .before .before .before .before .before .before .before .before .before .before .before .loop in
-    let s = c .before .before .before .before .before .before .before .before .before .before .before .before .before .before .before .before .args in
+    let at-low = c .before .before in
+    let at-high = at-low .before .before .before .before .before .before in
+    let at-test = at-high .before .before .before .before in
+    let l = at-test .before .loop in
+    let s = at-test .before .before .before .before .args in
     let x = getD (s .src .now) (l .i) 0 in
-    let done = hex-turn (text (s .out .now) (s .at)) (s .src .now) (l .i) (c .before .before .before .before .before .before .before .before .before .before .before .before .loop-test .taken) in
-    let high = a .ensures ∙ ap (put (text (l .out) (l .to))) (c .before .before .before .before .before .before .before .before .before .glyph .ensures) ∙ ap (λ (t : Text). put t (glyph (x / 16))) (l .inv .2) in
-    (omega arith, b .kept .0 ∙ a .kept .0 ∙ l .inv .1, b .ensures ∙ ap (put _) (c .before .before .before .glyph2 .ensures) ∙ ap (λ (t : Text). put t (glyph (x % 16))) high ∙ done)
+    let done = hex-turn (text (s .out .now) (s .at)) (s .src .now) (l .i) (at-test .loop-test .taken) in
+    let high =
+    at-high .byte .ensures
+    ∙ ap (put (text (l .out) (l .to))) (at-high .before .glyph .ensures)
+    ∙ ap (λ (t : Text). put t (glyph (x / 16))) (l .inv .2) in (
+      omega arith,
+      at-low .byte2 .kept .0 ∙ at-high .byte .kept .0 ∙ l .inv .1,
+      at-low .byte2 .ensures ∙ ap (put _) (at-low .before .glyph2 .ensures) ∙ ap (λ (t : Text). put t (glyph (x % 16))) high ∙ done,
+    )
 
 same-length : tie.Need-same-length Inv-loop μ-loop
 same-length c = search needs

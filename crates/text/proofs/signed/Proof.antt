@@ -58,7 +58,8 @@ returns-2 c =
     let at-if = c .before .before .before .before in
     let start = at-if .before .before .before in
     let e = toZ-ofZ {w = w32} (start .fits .z) in
-    other (start .args .z) _ _ _ (rw e at (at-if .if1 .left)) (at-if .before .size .ensures ∙ ap natAbs e) (c .before .before .decimal2 .ensures)
+    other (start .args .z) _ _ _ (rw e at (at-if .if1 .left)) (at-if .before .size .ensures ∙ ap natAbs e)
+    (c .before .before .decimal2 .ensures)
 
 pub signed-spec : {M : Type 1} → statement M
 signed-spec =

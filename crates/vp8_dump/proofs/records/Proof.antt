@@ -1,4 +1,5 @@
--- The measure is the number of turns that are left; the buffers keep their lengths. Assumes nothing.
+-- The measure is the number of turns that are left; the buffers keep their lengths. The other programs' loops over records go alike: the
+-- checker names each loop's needs by its function, so each has a file.
 use mathlib.Core.Path.{_≡_}
 use lib.ListN.{length}
 use borrow.Author.Needs.{needs}

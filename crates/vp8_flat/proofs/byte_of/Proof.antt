@@ -1,5 +1,5 @@
 -- Below 0 the number is `negsuc n`, and its byte is 255 - n.
--- Assumes nothing.
+--
 use native.Mathlib.Omega.{arith}
 use Prim.Native.Nat.{ℕ, suc, _-_, _<_, _≤_}
 use mathlib.Core.Path.{_≡_, refl, ap, subst}

@@ -1,4 +1,4 @@
--- The run is as long as the array, so it is what the array holds: `full` of `Runs`. Assumes nothing.
+-- The run is as long as the array, so it is what the array holds: `full` of `Runs`.
 use mathlib.Core.Path.{sym, _∙_}
 use borrow.Author.Needs.{needs}
 use Rattle.bool_decoder.proofs.Each.{length-mapped}
@@ -33,7 +33,10 @@ sized c =
             ))
             (c .args .parser .«coeff_prob» .v) (g .0) (g .1 .1),
       );
-      motion = (search (needs, length-mapped), every-of _ _ _ SizedMvContext (λ x u h. search (needs, length-mapped)) (c .args .parser .«mv_prob» .v) (m .0) (m .1 .1));
+      motion = (
+        search (needs, length-mapped),
+        every-of _ _ _ SizedMvContext (λ x u h. search (needs, length-mapped)) (c .args .parser .«mv_prob» .v) (m .0) (m .1 .1),
+      );
       luma = search needs;
       chroma = search needs;
     }

@@ -1,4 +1,4 @@
--- The run is as long as the array, so it is what the array holds: `full` of `Runs`. Assumes nothing.
+-- The run is as long as the array, so it is what the array holds: `full` of `Runs`.
 use mathlib.Core.Path.{sym, _∙_}
 use borrow.Author.Needs.{needs}
 use Rattle.bool_decoder.proofs.Each.{length-mapped}

@@ -1,4 +1,4 @@
--- The pieces one after the other: `then` of `Puts`. Assumes nothing.
+-- The pieces one after the other: `then` of `Puts`.
 use mathlib.Core.List.{[], _∷_}
 use borrow.Author.Needs.{needs}
 use Rattle.text.proofs.Puts.{then, worded}
@@ -28,9 +28,13 @@ same-length c = search needs
 
 returns : tie.Need-returns
 returns c =
+    let at-modes = c .before .before in
+    let at-frames = at-modes .before .before .before .before in
+    let at-flags = at-frames .before .before .before .before in
+    let at-bits = at-flags .before .before .before .before .before in
     then _ _ _ _ _
-    (worded _ _ _ _ (c .before .before .before .before .before .before .before .before .before .before .bytes .ensures) (λ i. c .before .before .before .before .before .before .before .before .before .before .before .before .before .before .before .before .bit .ensures i ∷ c .before .before .before .before .before .before .before .before .before .before .before .before .before .before .before .bit2 .ensures i ∷ []))
-    (then _ _ _ _ _ (c .before .before .before .before .before .before .put-signed .ensures) (c .before .before .put-signed2 .ensures))
+    (worded _ _ _ _ (at-flags .bytes .ensures) (λ i. at-bits .before .bit .ensures i ∷ at-bits .bit2 .ensures i ∷ []))
+    (then _ _ _ _ _ (at-frames .put-signed .ensures) (at-modes .put-signed2 .ensures))
 
 pub put-adjustments-spec : {M : Type 1} → statement M
 put-adjustments-spec =

@@ -1,4 +1,5 @@
--- After j turns the runs of the first j parts are put: `Runs`. Assumes nothing.
+-- After j turns the rows of the first j are put: the law is `Put` of `Runs`. The checker names each loop's needs by its function, so the
+-- four loops over rows (contexts, bands, coeffs, motion) answer them alike in a file each.
 use Prim.Native.Nat.{_-_}
 use mathlib.Core.Path.{_≡_}
 use lib.ListN.{length}
@@ -37,7 +38,11 @@ loop-less : tie.Need-loop-less Inv-loop μ-loop
 loop-less c = search needs
 
 loop-again : tie.Need-loop-again Inv-loop μ-loop
-loop-again c = turn _ (c .before .before .before .before .before .before .loop .inv) (c .before .before .before .before .before .loop-test .taken) (lengths (c .before .before .before .before .before .before .before .before)) (c .before .before .put-contexts .kept .0) (c .before .before .put-contexts .ensures)
+loop-again c =
+    let at-put = c .before .before in
+    let at-test = at-put .before .before .before in
+    turn _ (at-test .before .loop .inv) (at-test .loop-test .taken) (lengths (at-test .before .before .before))
+    (at-put .put-contexts .kept .0) (at-put .put-contexts .ensures)
 
 same-length : tie.Need-same-length Inv-loop μ-loop
 same-length c = c .before .loop .inv .size
@@ -46,4 +51,17 @@ returns : tie.Need-returns Inv-loop μ-loop
 returns c = end (c .before .loop .inv) (lengths (c .before .before .before)) (c .loop-test .left)
 
 pub put-bands-spec : {M : Type 1} → statement M
-put-bands-spec = tie.close (tie.spec Inv-loop μ-loop loop-holds mul-put-contexts element-copy-out-put-contexts put-contexts-requires add-j loop-less loop-again same-length returns)
+put-bands-spec =
+    tie.close
+    (tie.spec
+    Inv-loop
+    μ-loop
+    loop-holds
+    mul-put-contexts
+    element-copy-out-put-contexts
+    put-contexts-requires
+    add-j
+    loop-less
+    loop-again
+    same-length
+    returns)

@@ -1,4 +1,5 @@
--- After k turns the runs of the first k parts are put: `Runs`. Assumes nothing.
+-- After k turns the rows of the first k are put: the law is `Put` of `Runs`. The checker names each loop's needs by its function, so the
+-- four loops over rows (contexts, bands, coeffs, motion) answer them alike in a file each.
 use Prim.Native.Nat.{_-_}
 use mathlib.Core.Path.{_≡_}
 use lib.ListN.{length}
@@ -37,7 +38,11 @@ loop-less : tie.Need-loop-less Inv-loop μ-loop
 loop-less c = search needs
 
 loop-again : tie.Need-loop-again Inv-loop μ-loop
-loop-again c = turn _ (c .before .before .before .before .before .before .loop .inv) (c .before .before .before .before .before .loop-test .taken) (lengths (c .before .before .before .before .before .before .before .before)) (c .before .before .put-tokens .kept .0) (c .before .before .put-tokens .ensures)
+loop-again c =
+    let at-put = c .before .before in
+    let at-test = at-put .before .before .before in
+    turn _ (at-test .before .loop .inv) (at-test .loop-test .taken) (lengths (at-test .before .before .before))
+    (at-put .put-tokens .kept .0) (at-put .put-tokens .ensures)
 
 same-length : tie.Need-same-length Inv-loop μ-loop
 same-length c = c .before .loop .inv .size
@@ -46,4 +51,17 @@ returns : tie.Need-returns Inv-loop μ-loop
 returns c = end (c .before .loop .inv) (lengths (c .before .before .before)) (c .loop-test .left)
 
 pub put-contexts-spec : {M : Type 1} → statement M
-put-contexts-spec = tie.close (tie.spec Inv-loop μ-loop loop-holds mul-put-tokens element-copy-out-put-tokens put-tokens-requires add-k loop-less loop-again same-length returns)
+put-contexts-spec =
+    tie.close
+    (tie.spec
+    Inv-loop
+    μ-loop
+    loop-holds
+    mul-put-tokens
+    element-copy-out-put-tokens
+    put-tokens-requires
+    add-k
+    loop-less
+    loop-again
+    same-length
+    returns)

@@ -1,4 +1,4 @@
--- The pieces one after the other: `then` of `Puts`. Assumes nothing.
+-- The pieces one after the other: `then` of `Puts`.
 use borrow.Author.Needs.{needs}
 use Rattle.text.proofs.Puts.{then}
 use Rattle.vp8_flat.proofs.put_modes.Statement.{statement}
@@ -20,7 +20,10 @@ same-length : tie.Need-same-length
 same-length c = search needs
 
 returns : tie.Need-returns
-returns c = then _ _ _ _ _ (c .before .before .before .before .before .before .before .bytes .ensures) (c .before .before .bytes2 .ensures)
+returns c =
+    let at-chroma = c .before .before in
+    let at-luma = at-chroma .before .before .before .before .before in
+    then _ _ _ _ _ (at-luma .bytes .ensures) (at-chroma .bytes2 .ensures)
 
 pub put-modes-spec : {M : Type 1} → statement M
 put-modes-spec =

@@ -1,4 +1,4 @@
--- The pieces one after the other, and together the kept numbers: `Whole`. Assumes nothing.
+-- The pieces one after the other, and together the kept numbers: `Whole`.
 use borrow.Author.Needs.{needs}
 use Rattle.text.proofs.Puts.{then, worded}
 use Rattle.vp8_flat.proofs.Whole.{kept-is}
@@ -25,12 +25,18 @@ same-length c = search needs
 
 returns : tie.Need-returns
 returns c =
+    let at-modes = c .before .before in
+    let at-motion = at-modes .before .before .before .before in
+    let at-coeffs = at-motion .before .before .before .before in
+    let at-adjustments = at-coeffs .before .before .before .before in
+    let at-segmentation = at-adjustments .before .before .before .before in
+    let at-fields = at-segmentation .before .before in
     worded _ _ _ _
-    (then _ _ _ _ _ (c .before .before .before .before .before .before .before .before .before .before .before .before .before .before .before .before .before .before .put-segmentation .ensures)
-    (then _ _ _ _ _ (c .before .before .before .before .before .before .before .before .before .before .before .before .before .before .put-adjustments .ensures)
-    (then _ _ _ _ _ (c .before .before .before .before .before .before .before .before .before .before .put-coeffs .ensures)
-    (then _ _ _ _ _ (c .before .before .before .before .before .before .put-motion .ensures) (c .before .before .put-modes .ensures)))))
-    (kept-is (c .before .before .before .before .before .before .before .before .before .before .before .before .before .before .before .before .before .before .before .before .before .before .before .before .before .before .args .parser))
+    (then _ _ _ _ _ (at-segmentation .put-segmentation .ensures)
+    (then _ _ _ _ _ (at-adjustments .put-adjustments .ensures)
+    (then _ _ _ _ _ (at-coeffs .put-coeffs .ensures)
+    (then _ _ _ _ _ (at-motion .put-motion .ensures) (at-modes .put-modes .ensures)))))
+    (kept-is (at-fields .before .before .before .before .before .before .args .parser))
 
 pub put-parser-spec : {M : Type 1} → statement M
 put-parser-spec =

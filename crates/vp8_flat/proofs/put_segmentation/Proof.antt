@@ -1,4 +1,4 @@
--- The pieces one after the other: `then` of `Puts`. Assumes nothing.
+-- The pieces one after the other: `then` of `Puts`.
 use mathlib.Core.List.{[], _∷_}
 use borrow.Author.Needs.{needs}
 use Rattle.text.proofs.Puts.{then, worded}
@@ -40,11 +40,21 @@ same-length c = search needs
 
 returns : tie.Need-returns
 returns c =
-    let s = c .before .before .before .before .before .before .before .before .before .before .before .before .before .before .before .before .before .before .before .before .before in
+    let at-probs = c .before .before in
+    let at-levels = at-probs .before .before .before .before .before in
+    let at-quantizers = at-levels .before .before .before .before in
+    let at-flags = at-quantizers .before .before .before .before in
+    let at-bits = at-flags .before .before .before .before .before .before in
     then _ _ _ _ _
-    (worded _ _ _ _ (c .before .before .before .before .before .before .before .before .before .before .before .before .before .before .before .bytes .ensures) (λ i. s .before .before .before .bit .ensures i ∷ s .before .before .bit2 .ensures i ∷ s .before .bit3 .ensures i ∷ s .bit4 .ensures i ∷ []))
-    (then _ _ _ _ _ (c .before .before .before .before .before .before .before .before .before .before .before .put-signed .ensures)
-    (then _ _ _ _ _ (c .before .before .before .before .before .before .before .put-signed2 .ensures) (c .before .before .bytes2 .ensures)))
+    (worded _ _ _ _ (at-flags .bytes .ensures)
+    (λ i.
+    at-bits .before .before .before .bit .ensures i
+    ∷ at-bits .before .before .bit2 .ensures i
+    ∷ at-bits .before .bit3 .ensures i
+    ∷ at-bits .bit4 .ensures i
+    ∷ []))
+    (then _ _ _ _ _ (at-quantizers .put-signed .ensures)
+    (then _ _ _ _ _ (at-levels .put-signed2 .ensures) (at-probs .bytes2 .ensures)))
 
 pub put-segmentation-spec : {M : Type 1} → statement M
 put-segmentation-spec =

@@ -1,4 +1,4 @@
--- After i turns the bytes of the first i numbers are put: `Runs`, with a run of one for each. Assumes nothing.
+-- After i turns the bytes of the first i numbers are put: `Runs`, with a run of one for each.
 use Prim.Native.Nat.{ℕ, _-_}
 use mathlib.Core.Path.{_≡_, ap, _∙_}
 use mathlib.Core.List.{[], _∷_}
@@ -43,14 +43,15 @@ loop-less c = search needs
 
 loop-again : tie.Need-loop-again Inv-loop μ-loop
 loop-again c =
-    let l = c .before .before .before .before .before .before .before .loop in
-    let put = c .before .before .byte in
-    let byte = c .before .before .before .byte-of in
-    let read = ap (ofZ w8) (toZ-ofZ w8 (getD (c .before .before .before .before .before .before .before .before .before .args .t3) (l .i) (pos 0)) (record { sfits = c .before .before .before .before .byte-of-arg .given })) in
-    turn _ (l .inv) (c .before .before .before .before .before .before .loop-test .taken)
-    (lengths (c .before .before .before .before .before .before .before .before .before))
-    (put .kept .0)
-    (one _ _ _ _ (put .ensures) ∙ ap (λ (b : ℕ). puts (text (l .out) (l .to)) (b ∷ [])) (byte .ensures ∙ read))
+    let at-put = c .before .before in
+    let at-test = at-put .before .before .before .before in
+    let l = at-test .before .loop in
+    let start = at-test .before .before .before in
+    let z = getD (start .args .t3) (l .i) (pos 0) in
+    let read = ap (ofZ w8) (toZ-ofZ w8 z (record { sfits = at-put .before .before .byte-of-arg .given })) in
+    turn _ (l .inv) (at-test .loop-test .taken) (lengths start) (at-put .byte .kept .0)
+    (one _ _ _ _ (at-put .byte .ensures)
+    ∙ ap (λ (b : ℕ). puts (text (l .out) (l .to)) (b ∷ [])) (at-put .before .byte-of .ensures ∙ read))
 
 same-length : tie.Need-same-length Inv-loop μ-loop
 same-length c = c .before .loop .inv .size

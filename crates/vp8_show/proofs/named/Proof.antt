@@ -15,7 +15,8 @@ same-length c = search needs
 
 returns : tie.Need-returns
 returns c =
-    then _ _ _ _ _ (c .before .before .before .before .before .before .bytes .ensures) (c .before .before .decimal .ensures)
+    let at-second = c .before .before in
+    then _ _ _ _ _ (at-second .before .before .before .before .bytes .ensures) (at-second .decimal .ensures)
 
 pub named-spec : {M : Type 1} → statement M
 named-spec = tie.close (tie.spec bytes-requires decimal-requires same-length returns)

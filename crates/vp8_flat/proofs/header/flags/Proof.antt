@@ -1,4 +1,4 @@
--- Each number is what its call gives. Assumes nothing.
+-- Each number is what its call gives.
 use mathlib.Core.Path.{_∙_}
 use mathlib.Core.List.{[], _∷_}
 use borrow.Author.Needs.{needs}
@@ -67,16 +67,25 @@ wide-requires-13 c κs = search needs
 
 returns : tie.Need-returns
 returns c =
+    let at-skip = c .before .before .before .before in
+    let at-bias-alternate = at-skip .before .before in
+    let at-bias-golden = at-bias-alternate .before .before in
+    let at-to-alternate = at-bias-golden .before .before in
+    let at-to-golden = at-to-alternate .before in
+    let at-alternate = at-to-golden .before in
+    let at-golden = at-alternate .before .before in
+    let at-last = at-golden .before .before in
+    let at-entropy = at-last .before .before in
     λ i.
-    (c .before .before .before .before .before .before .before .before .before .before .before .before .before .before .before .before .before .before .wide .ensures ∙ c .before .before .before .before .before .before .before .before .before .before .before .before .before .before .before .before .before .before .before .bit .ensures) i
-    ∷ (c .before .before .before .before .before .before .before .before .before .before .before .before .before .before .before .before .wide2 .ensures ∙ c .before .before .before .before .before .before .before .before .before .before .before .before .before .before .before .before .before .bit2 .ensures) i
-    ∷ (c .before .before .before .before .before .before .before .before .before .before .before .before .before .before .wide3 .ensures ∙ c .before .before .before .before .before .before .before .before .before .before .before .before .before .before .before .bit3 .ensures) i
-    ∷ (c .before .before .before .before .before .before .before .before .before .before .before .before .wide4 .ensures ∙ c .before .before .before .before .before .before .before .before .before .before .before .before .before .bit4 .ensures) i
-    ∷ c .before .before .before .before .before .before .before .before .before .before .before .wide5 .ensures i
-    ∷ c .before .before .before .before .before .before .before .before .before .before .wide6 .ensures i
-    ∷ (c .before .before .before .before .before .before .before .before .wide7 .ensures ∙ c .before .before .before .before .before .before .before .before .before .bit5 .ensures) i
-    ∷ (c .before .before .before .before .before .before .wide8 .ensures ∙ c .before .before .before .before .before .before .before .bit6 .ensures) i
-    ∷ (c .before .before .before .before .wide9 .ensures ∙ c .before .before .before .before .before .bit7 .ensures) i
+    (at-entropy .wide .ensures ∙ at-entropy .before .bit .ensures) i
+    ∷ (at-last .wide2 .ensures ∙ at-last .before .bit2 .ensures) i
+    ∷ (at-golden .wide3 .ensures ∙ at-golden .before .bit3 .ensures) i
+    ∷ (at-alternate .wide4 .ensures ∙ at-alternate .before .bit4 .ensures) i
+    ∷ at-to-golden .wide5 .ensures i
+    ∷ at-to-alternate .wide6 .ensures i
+    ∷ (at-bias-golden .wide7 .ensures ∙ at-bias-golden .before .bit5 .ensures) i
+    ∷ (at-bias-alternate .wide8 .ensures ∙ at-bias-alternate .before .bit6 .ensures) i
+    ∷ (at-skip .wide9 .ensures ∙ at-skip .before .bit7 .ensures) i
     ∷ c .before .before .before .wide10 .ensures i
     ∷ c .before .before .wide11 .ensures i
     ∷ c .before .wide12 .ensures i

@@ -1,4 +1,4 @@
--- Each number is what its call gives. Assumes nothing.
+-- Each number is what its call gives.
 use mathlib.Core.Path.{_∙_}
 use mathlib.Core.List.{[], _∷_}
 use borrow.Author.Needs.{needs}
@@ -67,21 +67,33 @@ wide-requires-12 c κs = search needs
 
 returns : tie.Need-returns
 returns c =
-    let s = c .before .before .before .before .before .before .before .before .before .before .before .before .before .before .before .before .before .before .before .before .args .h in
+    let at-level = c .before .before .before in
+    let at-filter = at-level .before in
+    let at-clamping = at-filter .before .before in
+    let at-color = at-clamping .before .before in
+    let at-vert = at-color .before .before in
+    let at-horiz = at-vert .before in
+    let at-height = at-horiz .before in
+    let at-width = at-height .before in
+    let at-chunk = at-width .before in
+    let at-show = at-chunk .before in
+    let at-version = at-show .before .before in
+    let at-key = at-version .before in
+    let h = at-key .before .before .args .h in
     λ i.
-    (c .before .before .before .before .before .before .before .before .before .before .before .before .before .before .before .before .before .before .wide .ensures ∙ c .before .before .before .before .before .before .before .before .before .before .before .before .before .before .before .before .before .before .before .bit .ensures) i
-    ∷ c .before .before .before .before .before .before .before .before .before .before .before .before .before .before .before .before .before .wide2 .ensures i
-    ∷ (c .before .before .before .before .before .before .before .before .before .before .before .before .before .before .before .wide3 .ensures ∙ c .before .before .before .before .before .before .before .before .before .before .before .before .before .before .before .before .bit2 .ensures) i
-    ∷ c .before .before .before .before .before .before .before .before .before .before .before .before .before .before .wide4 .ensures i
-    ∷ s .«first_part_size»
-    ∷ c .before .before .before .before .before .before .before .before .before .before .before .before .before .wide16 .ensures i
-    ∷ c .before .before .before .before .before .before .before .before .before .before .before .before .wide162 .ensures i
-    ∷ c .before .before .before .before .before .before .before .before .before .before .before .wide5 .ensures i
-    ∷ c .before .before .before .before .before .before .before .before .before .before .wide6 .ensures i
-    ∷ (c .before .before .before .before .before .before .before .before .wide7 .ensures ∙ c .before .before .before .before .before .before .before .before .before .bit3 .ensures) i
-    ∷ (c .before .before .before .before .before .before .wide8 .ensures ∙ c .before .before .before .before .before .before .before .bit4 .ensures) i
-    ∷ (c .before .before .before .before .wide9 .ensures ∙ c .before .before .before .before .before .bit5 .ensures) i
-    ∷ c .before .before .before .wide10 .ensures i
+    (at-key .wide .ensures ∙ at-key .before .bit .ensures) i
+    ∷ at-version .wide2 .ensures i
+    ∷ (at-show .wide3 .ensures ∙ at-show .before .bit2 .ensures) i
+    ∷ at-chunk .wide4 .ensures i
+    ∷ h .«first_part_size»
+    ∷ at-width .wide16 .ensures i
+    ∷ at-height .wide162 .ensures i
+    ∷ at-horiz .wide5 .ensures i
+    ∷ at-vert .wide6 .ensures i
+    ∷ (at-color .wide7 .ensures ∙ at-color .before .bit3 .ensures) i
+    ∷ (at-clamping .wide8 .ensures ∙ at-clamping .before .bit4 .ensures) i
+    ∷ (at-filter .wide9 .ensures ∙ at-filter .before .bit5 .ensures) i
+    ∷ at-level .wide10 .ensures i
     ∷ c .before .before .wide11 .ensures i
     ∷ c .before .partitions .ensures .0 i
     ∷ c .wide12 .ensures i

@@ -1,4 +1,4 @@
--- Each number is what its call gives. Assumes nothing.
+-- Each number is what its call gives.
 use borrow.Author.Needs.{needs}
 use Rattle.vp8_flat.proofs.header.tail.Statement.{statement}
 use Rattle.vp8_flat.proofs.header.tail.Tie as tie

@@ -1,11 +1,8 @@
 -- The answer, then the kept numbers.
-use Prim.Native.Nat.{ℕ}
-use mathlib.Core.Path.{ap}
-use mathlib.Core.List.{List, _++_}
-use Rattle.text.specs.Digits.{hexOf}
 use Rattle.text.specs.Template.{ascii}
-use Rattle.text.proofs.Puts.{then, worded}
+use Rattle.text.proofs.Puts.{then}
 use Rattle.vp8_show.specs.Dumped.{dumped}
+use Rattle.vp8_show.proofs.Laws.{hex-is}
 use borrow.Author.Needs.{needs}
 use Rattle.vp8_show.proofs.dump.line.Statement.{statement}
 use Rattle.vp8_show.proofs.dump.line.Tie as tie
@@ -34,7 +31,7 @@ returns c =
     let at-kept = c .before .before in
     let at-answer = at-kept .before .before .before .before .before .before in
     then _ _ _ _ _ (at-answer .answer .ensures)
-    (worded _ _ _ _ (at-kept .named-bytes .ensures) (ap (λ (l : List ℕ). ascii " st=" ++ hexOf l) (at-answer .before .before .kept .ensures)))
+    (hex-is _ _ (ascii " st=") _ _ (at-kept .named-bytes .ensures) (at-answer .before .before .kept .ensures))
 
 pub line-spec : {M : Type 1} → statement M
 line-spec =

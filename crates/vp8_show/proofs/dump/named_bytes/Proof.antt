@@ -15,7 +15,8 @@ same-length c = search needs
 
 returns : tie.Need-returns
 returns c =
-    then _ _ _ _ _ (c .before .before .before .before .before .before .bytes .ensures) (c .before .before .hex .ensures)
+    let at-second = c .before .before in
+    then _ _ _ _ _ (at-second .before .before .before .before .bytes .ensures) (at-second .hex .ensures)
 
 pub named-bytes-spec : {M : Type 1} → statement M
 named-bytes-spec = tie.close (tie.spec bytes-requires hex-requires same-length returns)

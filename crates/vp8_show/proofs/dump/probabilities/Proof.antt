@@ -1,11 +1,8 @@
 -- Three names, each with the bytes that the flat records have.
-use Prim.Native.Nat.{ℕ}
-use mathlib.Core.Path.{ap}
-use mathlib.Core.List.{List, _++_}
-use Rattle.text.specs.Digits.{hexOf}
 use Rattle.text.specs.Template.{ascii}
-use Rattle.text.proofs.Puts.{then, worded}
+use Rattle.text.proofs.Puts.{then}
 use Rattle.vp8_show.specs.Dumped.{probsText}
+use Rattle.vp8_show.proofs.Laws.{hex-is}
 use borrow.Author.Needs.{needs}
 use Rattle.vp8_show.proofs.dump.probabilities.Statement.{statement}
 use Rattle.vp8_show.proofs.dump.probabilities.Tie as tie
@@ -56,9 +53,9 @@ returns c =
     let at-motion = at-coeffs .before .before .before .before .before .before in
     let at-modes = at-motion .before .before .before .before .before .before in
     let flat = at-modes .before .before .before .before in
-    then _ _ _ _ _ (worded _ _ _ _ (at-modes .named-bytes .ensures) (ap (λ (l : List ℕ). ascii " modes=" ++ hexOf l) (flat .before .before .modes .ensures)))
-    (then _ _ _ _ _ (worded _ _ _ _ (at-motion .named-bytes2 .ensures) (ap (λ (l : List ℕ). ascii " mv=" ++ hexOf l) (flat .before .motion .ensures)))
-    (worded _ _ _ _ (at-coeffs .named-bytes3 .ensures) (ap (λ (l : List ℕ). ascii " coeff=" ++ hexOf l) (flat .coeffs .ensures))))
+    then _ _ _ _ _ (hex-is _ _ (ascii " modes=") _ _ (at-modes .named-bytes .ensures) (flat .before .before .modes .ensures))
+    (then _ _ _ _ _ (hex-is _ _ (ascii " mv=") _ _ (at-motion .named-bytes2 .ensures) (flat .before .motion .ensures))
+    (hex-is _ _ (ascii " coeff=") _ _ (at-coeffs .named-bytes3 .ensures) (flat .coeffs .ensures)))
 
 pub probabilities-spec : {M : Type 1} → statement M
 probabilities-spec =

@@ -2,12 +2,11 @@
 use Prim.Native.Nat.{ℕ}
 use mathlib.Core.Path.{ap, _∙_}
 use mathlib.Core.List.{_++_}
-use mir.Syntax.{w8}
-use mir.ValLaws.{toZ-ofZ}
 use Rattle.text.specs.Digits.{decimalOf}
 use Rattle.text.specs.Template.{ascii}
 use Rattle.text.proofs.Puts.{then, worded}
-use Rattle.vp8_show.specs.Dumped.{deltaText, quantText}
+use Rattle.vp8_show.specs.Dumped.{quantText}
+use Rattle.vp8_show.proofs.Laws.{delta-is}
 use borrow.Author.Needs.{needs}
 use Rattle.vp8_show.proofs.dump.quantizer.Statement.{statement}
 use Rattle.vp8_show.proofs.dump.quantizer.Tie as tie
@@ -44,7 +43,8 @@ same-length c =
     let at-2 = at-3 .before .before .before .before .before in
     let at-1 = at-2 .before .before .before .before .before in
     let at-index = at-1 .before .before .before .before .before in
-    at-5 .delta5 .kept .0 ∙ at-4 .delta4 .kept .0 ∙ at-3 .delta3 .kept .0 ∙ at-2 .delta2 .kept .0 ∙ at-1 .delta .kept .0 ∙ at-index .named .kept .0
+    at-5 .delta5 .kept .0 ∙ at-4 .delta4 .kept .0 ∙ at-3 .delta3 .kept .0 ∙ at-2 .delta2 .kept .0 ∙ at-1 .delta .kept .0
+    ∙ at-index .named .kept .0
 
 returns : tie.Need-returns
 unfolding quantText
@@ -56,12 +56,18 @@ returns c =
     let at-1 = at-2 .before .before .before .before .before in
     let at-index = at-1 .before .before .before .before .before in
     let q = at-index .before .before .before .before .before .args .q in
-    then _ _ _ _ _ (worded _ _ _ _ (at-index .named .ensures) (ap (λ (n : ℕ). ascii " q=" ++ decimalOf n) (at-index .before .wide8 .ensures .0)))
-    (then _ _ _ _ _ (worded _ _ _ _ (at-1 .delta .ensures) (ap deltaText (toZ-ofZ w8 (q .«y_dc_delta») (record { sfits = at-1 .before .struct-told .given .1 .0 .1 }))))
-    (then _ _ _ _ _ (worded _ _ _ _ (at-2 .delta2 .ensures) (ap deltaText (toZ-ofZ w8 (q .«y2_dc_delta») (record { sfits = at-2 .before .struct-told2 .given .1 .1 .0 .1 }))))
-    (then _ _ _ _ _ (worded _ _ _ _ (at-3 .delta3 .ensures) (ap deltaText (toZ-ofZ w8 (q .«y2_ac_delta») (record { sfits = at-3 .before .struct-told3 .given .1 .1 .1 .0 .1 }))))
-    (then _ _ _ _ _ (worded _ _ _ _ (at-4 .delta4 .ensures) (ap deltaText (toZ-ofZ w8 (q .«uv_dc_delta») (record { sfits = at-4 .before .struct-told4 .given .1 .1 .1 .1 .0 .1 }))))
-    (worded _ _ _ _ (at-5 .delta5 .ensures) (ap deltaText (toZ-ofZ w8 (q .«uv_ac_delta») (record { sfits = at-5 .before .struct-told5 .given .1 .1 .1 .1 .1 .0 .1 }))))))))
+    then _ _ _ _ _
+    (worded _ _ _ _ (at-index .named .ensures) (ap (λ (n : ℕ). ascii " q=" ++ decimalOf n) (at-index .before .wide8 .ensures .0)))
+    (then _ _ _ _ _
+    (delta-is _ _ (q .«y_dc_delta») (record { sfits = at-1 .before .struct-told .given .1 .0 .1 }) (at-1 .delta .ensures))
+    (then _ _ _ _ _
+    (delta-is _ _ (q .«y2_dc_delta») (record { sfits = at-2 .before .struct-told2 .given .1 .1 .0 .1 }) (at-2 .delta2 .ensures))
+    (then _ _ _ _ _
+    (delta-is _ _ (q .«y2_ac_delta») (record { sfits = at-3 .before .struct-told3 .given .1 .1 .1 .0 .1 }) (at-3 .delta3 .ensures))
+    (then _ _ _ _ _
+    (delta-is _ _ (q .«uv_dc_delta») (record { sfits = at-4 .before .struct-told4 .given .1 .1 .1 .1 .0 .1 }) (at-4 .delta4 .ensures))
+    (delta-is _ _ (q .«uv_ac_delta») (record { sfits = at-5 .before .struct-told5 .given .1 .1 .1 .1 .1 .0 .1 })
+    (at-5 .delta5 .ensures))))))
 
 pub quantizer-spec : {M : Type 1} → statement M
 quantizer-spec =

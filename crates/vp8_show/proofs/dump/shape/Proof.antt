@@ -36,8 +36,8 @@ unfolding shapeText
 returns c =
     let at-sizes = c .before .before in
     let at-shape = at-sizes .before .before .before .before .before .before in
-    then _ _ _ _ _ (worded _ _ _ _ (at-shape .fill .ensures) (ap (filled _) (at-shape .before .before .before .before .before .shape .ensures)))
-    (at-sizes .fill2 .ensures)
+    let numbers = at-shape .before .before .before .before .before .shape .ensures in
+    then _ _ _ _ _ (worded _ _ _ _ (at-shape .fill .ensures) (ap (filled _) numbers)) (at-sizes .fill2 .ensures)
 
 pub shape-spec : {M : Type 1} → statement M
 shape-spec =

@@ -12,7 +12,8 @@ cast-result c = rw (toZ-ofZ {w = w8} (c .fits .z)) (sfits-widen {w = w8} {w′ =
 
 returns : tie.Need-returns
 returns c =
-    ap (λ (y : ℤ). toZ w32 (ofZ w32 y)) (toZ-ofZ {w = w8} (c .fits .z)) ∙ toZ-ofZ {w = w32} (sfits-widen {w = w8} {w′ = w32} tt (c .fits .z))
+    ap (λ (y : ℤ). toZ w32 (ofZ w32 y)) (toZ-ofZ {w = w8} (c .fits .z))
+    ∙ toZ-ofZ {w = w32} (sfits-widen {w = w8} {w′ = w32} tt (c .fits .z))
 
 pub wide-signed-spec : {M : Type 1} → statement M
 wide-signed-spec = tie.close (tie.spec cast-result returns)

@@ -15,7 +15,8 @@ Inv-loop out₀ at count start sizes to₀ from₀ i₀ out to from i =
     (i ≤ count)
     × (length out ≡ length out₀)
     × (from ≤ 8589934592 + i * 4294967296)
-    × (puts (text out to) (partitionLines i from (drop i (take count sizes))) ≡ puts (text out₀ at) (partitionLines 0 start (take count sizes)))
+    × (puts (text out to) (partitionLines i from (drop i (take count sizes)))
+    ≡ puts (text out₀ at) (partitionLines 0 start (take count sizes)))
 
 abbrev μ-loop : tie.MeasureT-loop
 μ-loop out₀ at count start sizes to₀ from₀ i₀ out to from i = count - i
