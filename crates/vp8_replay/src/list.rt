@@ -1,5 +1,5 @@
 // The stored list, read piece by piece (tests/fixed/README.md). An answer of false means that the list is cut short or has an index that
-// is too large.
+// is too large. What stands in the lent arrays afterwards is what the C library read, which no contract can name.
 use lines::Number;
 
 fn number(width: u8) -> Number {

@@ -1,12 +1,12 @@
 // Replays the stored list of frames (tests/fixed/README.md) on the parser and compares every field of every answer, and every kept number
 // after every call, with the stored ones. It tells the first differences, and at the end how many frames there are; a list that is not
 // whole gets a line that says what is wrong.
-mod compare;
 mod list;
 
-use compare::Found;
 use lines::Number;
 use std::num::wrapping_add_u64;
+use vp8_compare::Found;
+use vp8_compare::Place;
 use vp8_records::Parsed;
 use vp8_records::Parser;
 use vp8_show::input::Came;
@@ -98,12 +98,16 @@ fn wrong(replay: Replay, word: &[u8]) -> Replay {
     Replay { parser, tally }
 }
 
+fn wide(n: u32) -> u64 {
+    n as u64
+}
+
 // These words, and a number after them.
 fn tell(words: &[u8], n: u64, after: &[u8]) {
     let mut out = [0u8; 64];
-    let at = lines::bytes(&mut out, 0, words);
-    let to = lines::decimal(&mut out, at, n);
-    let end = lines::bytes(&mut out, to, after);
+    let at = text::bytes(&mut out, 0, words);
+    let to = text::decimal(&mut out, at, n);
+    let end = text::bytes(&mut out, to, after);
     lines::show(&out, end);
 }
 
@@ -199,6 +203,17 @@ fn take_answer(
     }
 }
 
+// The numbers come as an array: a call that takes a slice would ask for its length, which a loan to a reader hides.
+fn compared(
+    parsed: Parsed,
+    given: &[u32; 3],
+    numbers: &[u32; 50],
+    probs: &[u8],
+    kept: &[u8],
+) -> Found {
+    vp8_compare::first(parsed, given, numbers, probs, kept)
+}
+
 // The answer to one frame, held against the stored one.
 fn frame(replay: Replay, case: u32, bytes: &[u8], probs: &mut [u8], kept: &mut [u8]) -> Replay {
     let mut given = [0u32; 3];
@@ -207,7 +222,7 @@ fn frame(replay: Replay, case: u32, bytes: &[u8], probs: &mut [u8], kept: &mut [
         return wrong(replay, b"an answer that is cut short or has a wrong index");
     }
     let parsed = vp8_parser::parse(replay.parser, bytes);
-    let found = compare::first(parsed, &given, &numbers, probs, kept);
+    let found = compared(parsed, &given, &numbers, probs, kept);
     let tally = judged(replay.tally, case, found);
     let parser = parsed.parser;
     Replay { parser, tally }
@@ -228,7 +243,7 @@ fn framed(replay: Replay, case: u32, size: u32, probs: &mut [u8], kept: &mut [u8
     }
 }
 
-// The case number of document 01 and the frame's length stand first.
+// The number of the worked case that the frame is, 0 for none, and its length stand first.
 fn numbered(replay: Replay, probs: &mut [u8], kept: &mut [u8]) -> Replay {
     let mut first = [0u32; 2];
     if !list::numbers(&mut first, &[1u8, 4]) {
@@ -245,9 +260,9 @@ fn least(a: usize, b: usize) -> usize
 
 // A new sequence: a fresh parser, and what it starts with. The header's probabilities are the last 1,101 kept numbers.
 fn sequence(tally: Tally, fresh: &[u8], probs: &mut [u8], kept: &mut [u8]) -> Replay {
-    lines::bytes(kept, 0, fresh);
+    text::bytes(kept, 0, fresh);
     let skipped = least(25, fresh.len());
-    lines::bytes(probs, 0, &fresh[skipped..]);
+    text::bytes(probs, 0, &fresh[skipped..]);
     let parser = Parser::new();
     let tally = Tally {
         sequences: wrapping_add_u64(tally.sequences, 1),
@@ -285,10 +300,10 @@ fn last(replay: Replay) -> Replay {
         return wrong(replay, b"cut short");
     }
     let tally = replay.tally;
-    if tally.sequences != compare::wide(counts[0]) {
+    if tally.sequences != wide(counts[0]) {
         return wrong(replay, b"the list has another number of sequences");
     }
-    if tally.frames != compare::wide(counts[1]) {
+    if tally.frames != wide(counts[1]) {
         return wrong(replay, b"the list has another number of frames");
     }
     finish(replay)
@@ -348,12 +363,12 @@ fn main() {
         lines::say(b"cut short");
         return;
     }
-    let i = compare::fresh_part(&fresh);
-    if i < 1126 {
-        tell(b"a fresh parser keeps another number ", i as u64, b"\n");
-        return;
+    match vp8_compare::fresh_apart(&fresh) {
+        Place::At(i) => tell(b"a fresh parser keeps another number ", i as u64, b"\n"),
+        Place::Nowhere => {
+            let mut probs = [0u8; 1101];
+            let mut kept = [0u8; 1126];
+            records(&fresh, &mut probs, &mut kept);
+        }
     }
-    let mut probs = [0u8; 1101];
-    let mut kept = [0u8; 1126];
-    records(&fresh, &mut probs, &mut kept);
 }

@@ -1,4 +1,5 @@
--- The measure is the number of turns that are left; the runs keep their lengths. Assumes nothing.
+-- The measure is the number of turns that are left; the runs keep their lengths. Each program has a copy: a loop's needs are
+-- of its own locals.
 use mathlib.Core.Path.{_≡_}
 use lib.ListN.{length}
 use borrow.Author.Needs.{needs}

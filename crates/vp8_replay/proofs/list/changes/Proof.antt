@@ -1,4 +1,4 @@
--- The measure is the number of changes that are left; the run keeps its length. Assumes nothing.
+-- The measure is the number of changes that are left; the run keeps its length.
 use mathlib.Core.Path.{_≡_}
 use lib.ListN.{length}
 use borrow.Author.Needs.{needs}

@@ -1,4 +1,4 @@
--- The measure is the number of widths that are left; the array keeps its length. Assumes nothing.
+-- The measure is the number of widths that are left; the array keeps its length.
 use mathlib.Core.Path.{_≡_}
 use Prim.Native.Nat.{_-_, _≤_}
 use lib.ListN.{length}

@@ -1,0 +1,3 @@
+-- What the contracts of the comparison cite.
+pub mod Apart
+pub mod Found
