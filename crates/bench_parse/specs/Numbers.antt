@@ -11,7 +11,7 @@ use Rattle.vp8_records.specs.declared.Parser.{Parser}
 use Rattle.vp8_records.specs.declared.Parsed.{Parsed}
 use Rattle.vp8_records.specs.Outcome.{numberOf}
 use Rattle.vp8_flat.specs.Bytes.{flatModes, segmentationBytes, adjustmentBytes}
-use Rattle.vp8_flat.specs.Numbers.{shapeOf, quantOf, flagsOf, tailOf}
+use Rattle.vp8_flat.specs.Numbers.{frontNumbers, flagsOf, tailOf}
 use Rattle.bench_sum.specs.Sum.{folds}
 
 -- past the end of a list stands an empty record, whose numbers are 0
@@ -27,9 +27,6 @@ motionAt m n = getD (getD (m .v) (n % 2) (record { v = [] }) .v) (n / 2 % 19) 0
 
 abbrev pub sample : CoeffProbs → MvProbs → ModeProbs → ℕ → List ℕ
 sample c m modes n = (coefficientAt c n ∷ motionAt m n ∷ []) ++ flatModes modes
-
-abbrev pub frontNumbers : Header → List ℕ
-frontNumbers h = shapeOf h ++ (h .«partition_size» ++ quantOf (h .«quant_indices»))
 
 -- all but the bools and the macroblock counts, which the Rust does not have
 abbrev pub backNumbers : Header → List ℕ

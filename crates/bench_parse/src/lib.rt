@@ -21,8 +21,9 @@ ghost use Rattle.bench_sum.specs.Sum.{folded, folds};
 ghost use Rattle.vp8_flat.specs.Bytes.{segmentationBytes, adjustmentBytes};
 ghost use Rattle.vp8_records.specs.Start.{fresh};
 ghost use Rattle.rfc6386.specs.Call.{call};
+ghost use Rattle.vp8_flat.specs.Numbers.{frontNumbers};
 ghost use Rattle.bench_parse.specs.Numbers.{coefficientAt, motionAt, sample};
-ghost use Rattle.bench_parse.specs.Numbers.{frontNumbers, backNumbers, headerNumbers, keptNumbers, sumOf};
+ghost use Rattle.bench_parse.specs.Numbers.{backNumbers, headerNumbers, keptNumbers, sumOf};
 
 fn byte(sum: u64, number: u8) -> u64
     ensures { λ r. ⌜ r ≡ folded sum number ⌝ }

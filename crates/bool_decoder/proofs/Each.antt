@@ -5,8 +5,8 @@ use native.Mathlib.Omega.{arith}
 use native.Mathlib.Nat.{add-zero, zero-add, add-suc, suc-add, mul-zero, mul-suc, mul-le-mul-left}
 use native.Mathlib.Numerals.{add-one}
 use mathlib.Core.Path.{_≡_, refl, ap, sym, _∙_, subst}
-use mathlib.Core.List.{List, [], _∷_, _++_, map}
-use lib.ListN.{length, getD, set, take, drop, length-set, length-map}
+use mathlib.Core.List.{List, [], _∷_, _++_}
+use lib.ListN.{length, getD, set, take, drop, length-set}
 use lib.Seq.{take-suc, take-suc-set, drop-set-lt, drop-drop, getD-drop, take-all, length-take-le}
 use Rattle.rfc6386.specs.Reads.{Rd, ret, _>>=_}
 use Rattle.rfc6386.proofs.Trees.{assoc}
@@ -15,10 +15,6 @@ use Rattle.bool_decoder.specs.Window.{Over}
 use Rattle.bool_decoder.specs.Model.{Good, Ran}
 use Rattle.bool_decoder.specs.declared.BoolDecoder.{BoolDecoder}
 use Rattle.bool_decoder.proofs.Chain.{then, done}
-
--- of an array of structs: what owning it tells stands at the list of the structs' values
-pub length-mapped : (X Y : Type 0) (f : X → Y) (l : List X) (n : ℕ) → length (map f l) ≡ n → length l ≡ n
-length-mapped X Y f l n p = sym (length-map l f) ∙ p
 
 module _ {A : Type 0} (f : ℕ → A → Rd A) where
   -- one element more at the end

@@ -90,7 +90,8 @@ module _ {area t : List ℕ} {at i : ℕ} {d : BoolDecoder} where
   leads (past {j} q z) m n s r = leads q (suc m) n (omega arith) (then _ z (on _ refl (rw (add-one j) at r)))
 
   -- a search is the tree's
-  finds-is : {n j : ℕ} {e : BoolDecoder} → i ≤ n → Over area d → Finds area t at i n d j e → (c : ℕ) × Ran (sought t at i (n - i)) area d j e c
+  finds-is : {n j : ℕ} {e : BoolDecoder} → i ≤ n → Over area d → Finds area t at i n d j e
+      → (c : ℕ) × Ran (sought t at i (n - i)) area d j e c
   unfolding sought
   finds-is {n} h o (hit {j} lt q r) = leads q (suc (n - j - 1)) (n - i) (omega (arith, rises q)) (then _ r (off _ refl (r .over)))
   finds-is {n} h o (miss q) = leads q 0 (n - i) (omega arith) (done (over-of o q))

@@ -93,8 +93,8 @@ fn pass(area: &[u8], table: &[u8], dec: BoolDecoder, at: usize, from: usize, end
     singles(area, table, four.dec, at, four.at, end)
 }
 
-// Of the entries that stand in the table from `at` on: the first from `from` on whose bool is set, and the decoder after that bool; or `end`,
-// and the decoder after all.
+// Of the entries that stand in the table from `at` on: the first from `from` on whose bool is set, and the decoder after that bool; or
+// `end`, and the decoder after all.
 pub fn seek(
     area: &[u8],
     table: &[u8],

@@ -1,4 +1,4 @@
--- Sequences of calls rs running code makes them: one after the other, each over the record that the one before left.
+-- Sequences of calls as running code makes them: one after the other, each over the record that the one before left.
 use Prim.Native.Nat.{ℕ}
 use mathlib.Core.Path.{_≡_}
 use mathlib.Core.List.{List, [], _∷_}

@@ -8,9 +8,9 @@ use borrow.Author.Tests.{eq-eqb, ne-eqb}
 use Rattle.vp8_records.specs.declared.Header.{Header}
 use Rattle.vp8_records.specs.declared.Parsed.{Parsed}
 use Rattle.vp8_flat.specs.declared.header.Carried.{Carried}
-use Rattle.vp8_flat.specs.Numbers.{carriedOf, shapeOf, quantOf}
+use Rattle.vp8_flat.specs.Numbers.{carriedOf, shapeOf, quantOf, frontNumbers}
 use Rattle.vp8_compare.specs.Apart.{apart}
-use Rattle.vp8_compare.specs.Found.{frontNumbers, headerNumbers, probBytes, headerFound, answerBy, answerFound}
+use Rattle.vp8_compare.specs.Found.{headerNumbers, probBytes, headerFound, answerBy, answerFound}
 use Rattle.vp8_compare.specs.declared.Place.the-variants.{At, Nowhere}
 use Rattle.vp8_compare.specs.declared.Found.{Found}
 use Rattle.vp8_compare.specs.declared.Found.the-variants.{Same, Refusal, Carried as Carries, Number, Probability}

@@ -10,7 +10,7 @@ use Rattle.vp8_records.specs.Layout.{flatCoeffs, flatMv}
 use Rattle.rfc6386.specs.Decoder.{pick}
 use Rattle.vp8_flat.specs.declared.header.Carried.{Carried}
 use Rattle.vp8_flat.specs.Bytes.{flatModes, keptBytes}
-use Rattle.vp8_flat.specs.Numbers.{carriedOf, shapeOf, quantOf, flagsOf, tailOf}
+use Rattle.vp8_flat.specs.Numbers.{carriedOf, frontNumbers, flagsOf, tailOf}
 use Rattle.vp8_compare.specs.Apart.{apart}
 use Rattle.vp8_compare.specs.declared.Place.{Place}
 use Rattle.vp8_compare.specs.declared.Place.the-variants.{At, Nowhere}
@@ -18,9 +18,6 @@ use Rattle.vp8_compare.specs.declared.Found.{Found}
 use Rattle.vp8_compare.specs.declared.Found.the-variants.{Same, Refusal, Carried as Carries, Number, Probability, Kept}
 
 -- a header's fifty numbers, in the order of a list
-abbrev pub frontNumbers : Header → List ℕ
-frontNumbers h = shapeOf h ++ (h .«partition_size» ++ quantOf (h .«quant_indices»))
-
 abbrev pub backNumbers : Header → List ℕ
 backNumbers h = flagsOf h ++ tailOf h
 

@@ -7,8 +7,9 @@ ghost use Prim.Native.Nat.{_≤_};
 ghost use lib.ListN.{drop};
 ghost use Rattle.vp8_records.specs.Start.{fresh};
 ghost use Rattle.vp8_flat.specs.Bytes.{keptBytes};
+ghost use Rattle.vp8_flat.specs.Numbers.{frontNumbers};
 ghost use Rattle.vp8_compare.specs.Apart.{apart, orPlace};
-ghost use Rattle.vp8_compare.specs.Found.{frontNumbers, backNumbers, headerNumbers, probBytes};
+ghost use Rattle.vp8_compare.specs.Found.{backNumbers, headerNumbers, probBytes};
 ghost use Rattle.vp8_compare.specs.Found.{headerFound, answerFound, orKept, foundOf};
 
 // Where two runs of numbers first differ.

@@ -1,17 +1,11 @@
--- A nested record takes no more of a list than it holds, and what owning an array of structs tells of each. By induction on the arrays.
---
+-- A nested record takes no more of a list than it holds: level by level, from its rows.
 use Prim.Native.Nat.{ℕ}
 use native.Mathlib.Omega.{arith}
 use mathlib.Core.Path.{_≡_, sym}
-use mathlib.Core.List.{List, [], _∷_, map}
+use mathlib.Core.List.{List}
 use lib.ListN.{take}
 use lib.Seq.{take-take}
-use base.Fml.{Fml}
-use denote.Array.{each}
-use denote.Shadow.{shadow}
-use mir.Val.{Val}
 use Rattle.vp8_records.specs.Layout.{laidTokens, laidContexts, laidBands, laidMvContext}
-use Rattle.vp8_records.specs.Shape.{Every}
 use Rattle.vp8_fields.proofs.InPlace.{rows-own}
 
 -- a record takes no more of a list than it holds
@@ -26,9 +20,3 @@ bands-own ys i = record { v = rows-own laidContexts 33 contexts-own 8 ys i }
 
 pub mv-own : (ys : List ℕ) → laidMvContext ys ≡ laidMvContext (take 19 ys)
 mv-own ys i = record { v = sym (take-take 19 19 ys (omega arith)) i }
-
-pub every-of : {B : Type 0} (d : Type 0) (f : d → List Val → Fml) (g : B → d) (P : B → Type 0)
-    → ((x : B) (u : Val) → shadow (f (g x) (u ∷ [])) → P x) → (xs : List B) (us : List Val) → shadow (each d f (map g xs) us) → Every P xs
-every-of d f g P h [] us o = tt
-every-of d f g P h (x ∷ xs) [] o = absurd o
-every-of d f g P h (x ∷ xs) (u ∷ us) o = (h x u (o .0), every-of d f g P h xs us (o .1))

@@ -1,6 +1,6 @@
 -- The numbers of a header and of an outcome, in the order of a dump line.
 use Prim.Native.Nat.{ℕ, zero, suc}
-use mathlib.Core.List.{List, [], _∷_}
+use mathlib.Core.List.{List, [], _∷_, _++_}
 use lib.ListN.{getD}
 use mir.Val.{ofZ}
 use mir.Syntax.{w8}
@@ -51,6 +51,10 @@ quantOf q =
     ∷ ofZ w8 (q .«uv_dc_delta»)
     ∷ ofZ w8 (q .«uv_ac_delta»)
     ∷ []
+
+-- shape, partition sizes and quantizers, one after the other
+abbrev pub frontNumbers : Header → List ℕ
+frontNumbers h = shapeOf h ++ (h .«partition_size» ++ quantOf (h .«quant_indices»))
 
 abbrev pub flagsOf : Header → List ℕ
 flagsOf h =

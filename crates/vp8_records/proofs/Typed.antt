@@ -1,14 +1,14 @@
 -- Every parser record that code can hold has arrays of its type's lengths: what owning a value of the type tells (`Is`) holds the length of
 -- each array, level by level.
 use Prim.Native.Nat.{ℕ}
-use mathlib.Core.Path.{_≡_, sym, _∙_}
+use mathlib.Core.Path.{_≡_}
 use mathlib.Core.List.{List, [], _∷_, map}
-use lib.ListN.{length, length-map}
+use lib.ListN.{length}
 use mir.Val.{Val}
 use base.Fml.{Fml}
 use denote.Laws.{Is}
 use denote.Shadow.{shadow}
-use denote.Array.{each, inArray}
+use denote.Array.{inArray}
 use Rattle.vp8_records.specs.declared.Tokens.{Tokens}
 use Rattle.vp8_records.specs.declared.Contexts.{Contexts}
 use Rattle.vp8_records.specs.declared.Bands.{Bands}
@@ -16,7 +16,8 @@ use Rattle.vp8_records.specs.declared.CoeffProbs.{CoeffProbs}
 use Rattle.vp8_records.specs.declared.MvContext.{MvContext}
 use Rattle.vp8_records.specs.declared.MvProbs.{MvProbs}
 use Rattle.vp8_records.specs.declared.Parser.{Parser}
-use Rattle.vp8_records.specs.Shape.{Every, Each, SizedTokens, SizedContexts, SizedBands, SizedCoeffs, SizedMvContext, SizedMv, Sized}
+use Rattle.vp8_records.specs.Shape.{Each, SizedTokens, SizedContexts, SizedBands, SizedCoeffs, SizedMvContext, SizedMv, Sized}
+use Rattle.vp8_records.proofs.Arrays.{length-mapped, every-of}
 use Rattle.vp8_records.proofs.Tokens as T₁
 use Rattle.vp8_records.proofs.Contexts as T₂
 use Rattle.vp8_records.proofs.Bands as T₃
@@ -28,17 +29,11 @@ use Rattle.vp8_records.proofs.Parser as T
 -- an array of n values, each of which is held as some d
 module _ {B d : Type 0} (f : d → List Val → Fml) (g : B → d) where
   sized-array : (n : ℕ) (xs : List B) (vs : List Val) → shadow (inArray d f n (map g xs) vs) → length xs ≡ n
-  sized-array n xs vs h = sym (length-map xs g) ∙ h .1 .0 .1
-
-  every-of : (P : B → Type 0) → ((x : B) (u : Val) → shadow (f (g x) (u ∷ [])) → P x)
-      → (xs : List B) (us : List Val) → shadow (each d f (map g xs) us) → Every P xs
-  every-of P h [] us o = tt
-  every-of P h (x ∷ xs) [] o = absurd o
-  every-of P h (x ∷ xs) (u ∷ us) o = (h x u (o .0), every-of P h xs us (o .1))
+  sized-array n xs vs h = length-mapped B d g xs n (h .1 .0 .1)
 
   each-of : (n : ℕ) (P : B → Type 0) → ((x : B) (u : Val) → shadow (f (g x) (u ∷ [])) → P x)
       → (xs : List B) (vs : List Val) → shadow (inArray d f n (map g xs) vs) → Each n P xs
-  each-of n P h xs vs o = (sized-array n xs vs o, every-of P h xs (o .0) (o .1 .1))
+  each-of n P h xs vs o = (sized-array n xs vs o, every-of d f g P h xs (o .0) (o .1 .1))
 
 tokens : (x : Tokens) (vs : List Val) → Is T₁.the-row x vs → SizedTokens x
 tokens x vs h = sized-array _ _ 11 (x .v) _ (h .1 .1 .0)

@@ -1,8 +1,7 @@
 -- The run is as long as the array, so it is what the array holds: `full` of `Runs`.
 use mathlib.Core.Path.{sym, _∙_}
 use borrow.Author.Needs.{needs}
-use Rattle.bool_decoder.proofs.Each.{length-mapped}
-use Rattle.vp8_fields.proofs.Shapes.{every-of}
+use Rattle.vp8_records.proofs.Arrays.{length-mapped, every-of}
 use Rattle.vp8_flat.proofs.Runs.{full}
 use Rattle.vp8_records.specs.Shape.{SizedMv, SizedMvContext}
 use Rattle.vp8_records.proofs.Parts.{mv}

@@ -4,7 +4,7 @@ use Prim.Native.Nat.{_-_}
 use mathlib.Core.Path.{_≡_}
 use lib.ListN.{length}
 use borrow.Author.Needs.{needs}
-use Rattle.bool_decoder.proofs.Each.{length-mapped}
+use Rattle.vp8_records.proofs.Arrays.{length-mapped}
 use Rattle.vp8_flat.proofs.Runs.{Put, begin, turn, end}
 use Rattle.vp8_records.specs.Layout.{flatMvContext}
 use Rattle.vp8_flat.proofs.put_motion.Statement.{statement}

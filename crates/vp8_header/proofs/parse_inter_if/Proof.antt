@@ -4,6 +4,7 @@ use mathlib.Core.Path.{_≡_, sym, ap, _∙_}
 use mathlib.Core.List.{List, [], append-nil}
 use Prim.Native.Nat.{ℕ}
 use borrow.Author.Needs.{needs}
+use Rattle.vp8_records.proofs.Arrays.{length-mapped, every-of}
 use Rattle.vp8_records.specs.declared.MvProbs.{MvProbs}
 use Rattle.vp8_records.specs.Layout.{flatMv, laidMv}
 use Rattle.vp8_records.specs.Shape.{SizedMv, SizedMvContext}
@@ -11,9 +12,7 @@ use Rattle.vp8_records.proofs.Parts as Parts
 use Rattle.rfc6386.specs.Runs.{over}
 use Rattle.rfc6386.specs.Call.{mvOver, modesOver}
 use Rattle.bool_decoder.proofs.Chain.{done, upto}
-use Rattle.bool_decoder.proofs.Each.{length-mapped}
 use Rattle.bool_decoder.proofs.Made.{make-on, make-off, same, worth}
-use Rattle.vp8_fields.proofs.Shapes.{every-of}
 use Rattle.vp8_header.specs.Stages.{interOf}
 use Rattle.vp8_header.proofs.parse_inter_if.Statement.{statement}
 use Rattle.vp8_header.proofs.parse_inter_if.Tie as tie

@@ -10,7 +10,8 @@ use Rattle.bool_decoder.proofs.zeros.fours.Statement.{statement}
 use Rattle.bool_decoder.proofs.zeros.fours.Tie as tie
 
 abbrev Inv-loop : tie.InvT-loop
-Inv-loop area table dec at from end stop bound low₀ i₀ low i = (i ≤ end) × (low < 256) × Quiet area table at from dec i (narrowed dec low (i - from))
+Inv-loop area table dec at from end stop bound low₀ i₀ low i =
+    (i ≤ end) × (low < 256) × Quiet area table at from dec i (narrowed dec low (i - from))
 
 abbrev μ-loop : tie.MeasureT-loop
 μ-loop area table dec at from end stop bound low₀ i₀ low i = end - i

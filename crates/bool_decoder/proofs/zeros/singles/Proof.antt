@@ -10,7 +10,8 @@ use Rattle.bool_decoder.proofs.zeros.singles.Statement.{statement}
 use Rattle.bool_decoder.proofs.zeros.singles.Tie as tie
 
 abbrev Inv-loop : tie.InvT-loop
-Inv-loop area table dec at from end bound low₀ i₀ low i = (i ≤ end) × (low < 256) × Quiet area table at from dec i (narrowed dec low (i - from))
+Inv-loop area table dec at from end bound low₀ i₀ low i =
+    (i ≤ end) × (low < 256) × Quiet area table at from dec i (narrowed dec low (i - from))
 
 abbrev μ-loop : tie.MeasureT-loop
 μ-loop area table dec at from end bound low₀ i₀ low i = end - i

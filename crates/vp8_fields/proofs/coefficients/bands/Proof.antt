@@ -6,18 +6,18 @@ use mathlib.Core.Path.{_≡_, refl, sym, ap, _∙_}
 use mathlib.Core.List.{List, [], append-nil}
 use lib.ListN.{length, length-set}
 use borrow.Author.Needs.{needs}
+use Rattle.vp8_records.proofs.Arrays.{length-mapped, every-of}
 use Rattle.vp8_records.specs.Shape.{SizedTokens, SizedContexts, SizedBands}
 use Rattle.vp8_records.specs.Layout.{flatBands, laidBands}
 use Rattle.vp8_records.proofs.Parts as Parts
 use Rattle.vp8_probs.specs.Tables.{coeffUpdate}
-use Rattle.bool_decoder.proofs.Each.{Turn, begin, end, length-mapped}
+use Rattle.bool_decoder.proofs.Each.{Turn, begin, end}
 use Rattle.bool_decoder.proofs.Made.{same, worth, makes}
 use Rattle.bool_decoder.proofs.Quiet.{lies}
 use Rattle.vp8_fields.specs.Rows.{coded}
 use Rattle.vp8_fields.proofs.InPlace.{leaf}
 use Rattle.vp8_fields.proofs.Nested.{every-set}
 use Rattle.vp8_fields.proofs.Turns.{flagged, reached, ended, written}
-use Rattle.vp8_fields.proofs.Shapes.{every-of}
 use Rattle.vp8_fields.proofs.coefficients.bands.Statement.{statement}
 use Rattle.vp8_fields.proofs.coefficients.bands.Tie as tie
 

@@ -4,15 +4,16 @@ use native.Mathlib.Omega.{arith}
 use mathlib.Core.Path.{_≡_}
 use lib.ListN.{length}
 use borrow.Author.Needs.{needs}
+use Rattle.vp8_records.proofs.Arrays.{length-mapped, every-of}
 use Rattle.vp8_records.specs.Shape.{Every, SizedTokens, SizedContexts, SizedBands}
 use Rattle.vp8_records.proofs.Parts as Parts
-use Rattle.bool_decoder.proofs.Each.{Turn, begin, room, turn, end, length-mapped}
+use Rattle.bool_decoder.proofs.Each.{Turn, begin, room, turn, end}
 use Rattle.vp8_probs.specs.Tables.{coeffUpdate}
 use Rattle.vp8_records.specs.Layout.{flatBands, laidBands}
 use Rattle.vp8_fields.specs.Rows.{coded, rowOver}
 use Rattle.vp8_fields.proofs.InPlace.{level}
 use Rattle.bool_decoder.proofs.Made.{same, makes}
-use Rattle.vp8_fields.proofs.Shapes.{bands-own, every-of}
+use Rattle.vp8_fields.proofs.Shapes.{bands-own}
 use native.Mathlib.Nat.{zero-add}
 use Rattle.rfc6386.specs.Coded.{coefficients}
 use Rattle.rfc6386.specs.Call.{coeffsOver}

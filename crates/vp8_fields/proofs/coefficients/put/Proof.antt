@@ -4,11 +4,10 @@ use native.Mathlib.Omega.{arith}
 use mathlib.Core.List.{[]}
 use mathlib.Core.Path.{_≡_, refl, ap, _∙_}
 use lib.ListN.{length, set, getD, length-set}
+use Rattle.vp8_records.proofs.Arrays.{length-mapped, every-of}
 use Rattle.vp8_records.specs.declared.Tokens.{Tokens}
 use Rattle.vp8_records.specs.Layout.{flatTokens, flatContexts}
 use Rattle.vp8_records.specs.Shape.{Every, SizedTokens}
-use Rattle.bool_decoder.proofs.Each.{length-mapped}
-use Rattle.vp8_fields.proofs.Shapes.{every-of}
 use Rattle.vp8_fields.proofs.Nested.{every-set, every-at, joined-set}
 use borrow.Author.Needs.{needs}
 use Rattle.vp8_fields.proofs.coefficients.put.Statement.{statement}

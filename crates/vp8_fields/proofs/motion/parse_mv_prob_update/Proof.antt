@@ -4,14 +4,15 @@ use native.Mathlib.Omega.{arith}
 use mathlib.Core.Path.{_≡_, refl}
 use lib.ListN.{length}
 use borrow.Author.Needs.{needs}
+use Rattle.vp8_records.proofs.Arrays.{length-mapped, every-of}
 use Rattle.vp8_records.specs.Shape.{Every, SizedMvContext}
-use Rattle.bool_decoder.proofs.Each.{Turn, begin, room, turn, end, length-mapped}
+use Rattle.bool_decoder.proofs.Each.{Turn, begin, room, turn, end}
 use Rattle.vp8_probs.specs.Tables.{mvUpdate}
 use Rattle.vp8_records.specs.Layout.{flatMvContext, laidMvContext}
 use Rattle.vp8_fields.specs.Rows.{codedMv, rowOver}
 use Rattle.vp8_fields.proofs.InPlace.{level}
 use Rattle.bool_decoder.proofs.Made.{same, makes}
-use Rattle.vp8_fields.proofs.Shapes.{mv-own, every-of}
+use Rattle.vp8_fields.proofs.Shapes.{mv-own}
 use native.Mathlib.Nat.{zero-add}
 use Rattle.rfc6386.specs.Coded.{motion}
 use Rattle.rfc6386.specs.Call.{mvOver}
