@@ -6,3 +6,4 @@ pub mod Counts
 pub mod Accepts
 pub mod Holds
 pub mod Fills
+pub mod Covers

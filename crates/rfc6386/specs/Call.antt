@@ -1,5 +1,5 @@
 -- The second step of a call: what a frame's words make of the kept numbers (docs/RULES.md: what is kept, and the table of refusals).
-use Prim.Native.Nat.{ℕ, _/_, _%_, _^_}
+use Prim.Native.Nat.{ℕ, _+_, _/_, _%_, _^_}
 use mathlib.Core.Bool.{Bool, false}
 use mathlib.Core.Option.{Option, none, some}
 use mathlib.Core.List.{List, [], _∷_, _++_}
@@ -100,9 +100,9 @@ cleared p = record {
   «mode_probs» = p .«mode_probs»;
 }
 
--- macroblock columns of a width, or rows of a height
+-- macroblock columns of a width, or rows of a height: 16 pixels each, the last one filled up (section 2)
 abbrev pub blocks : ℕ → ℕ
-blocks n = n / 16
+blocks n = (n + 15) / 16
 
 -- the header of an accepted frame
 unfoldable pub headerOf : Chunk → Coded → Snapshot → List ℕ → Probs → Header

@@ -3,8 +3,8 @@
 --   1. A frame's bytes say something, whatever the parser kept (Frame): the chunk, then, by a tree of reads (Coded, Reads) that the
 --      boolean decoder runs (Decoder), the coded fields, the decoder's snapshot and the partition sizes.
 --   2. What it says and the kept numbers make the answer: the outcome, the header and the new kept numbers (Call).
--- Fills says what it means that the parts of a frame fill it, and Holds what holds of every header whatever the bytes. The tables are
--- vp8_probs' Tables; the records with their starting values are vp8_records'.
+-- Fills says what it means that the parts of a frame fill it, Covers that macroblocks cover a picture, and Holds what holds of every header
+-- whatever the bytes. The tables are vp8_probs' Tables; the records with their starting values are vp8_records'.
 pub mod Bytes
 pub mod Decoder
 pub mod Reads
@@ -13,4 +13,5 @@ pub mod Coded
 pub mod Frame
 pub mod Call
 pub mod Fills
+pub mod Covers
 pub mod Holds

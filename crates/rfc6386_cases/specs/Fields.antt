@@ -107,10 +107,10 @@ keyHeader = record {
   «header_size» = 235;
   -- the bools written
   «bools» = 1256;
-  -- whole macroblocks across
-  «mb_cols» = 77;
-  -- whole macroblocks down
-  «mb_rows» = 35;
+  -- macroblocks across, the last one filled up
+  «mb_cols» = 78;
+  -- macroblocks down, likewise
+  «mb_rows» = 36;
 }
 
 abbrev keyLeft : Parser
@@ -232,10 +232,10 @@ plainHeader = record {
   «header_size» = 72;
   -- the bools written
   «bools» = 1107;
-  -- whole macroblocks across
+  -- macroblocks across, the last one filled up
   «mb_cols» = 1;
-  -- whole macroblocks down
-  «mb_rows» = 2;
+  -- macroblocks down, likewise
+  «mb_rows» = 3;
 }
 
 abbrev plainLeft : Parser
@@ -355,9 +355,9 @@ interHeader = record {
   «header_size» = 271;
   -- the bools written
   «bools» = 1312;
-  -- whole macroblocks across
+  -- macroblocks across, the last one filled up
   «mb_cols» = 0;
-  -- whole macroblocks down
+  -- macroblocks down, likewise
   «mb_rows» = 0;
 }
 
@@ -478,9 +478,9 @@ keptHeader = record {
   «header_size» = 209;
   -- the bools written
   «bools» = 1265;
-  -- whole macroblocks across
+  -- macroblocks across, the last one filled up
   «mb_cols» = 0;
-  -- whole macroblocks down
+  -- macroblocks down, likewise
   «mb_rows» = 0;
 }
 

@@ -386,11 +386,11 @@ fn kept(
     }
 }
 
-// Macroblock columns of a width, or rows of a height.
+// Macroblock columns of a width, or rows of a height; wider than a u16 on the way, since 15 more may not fit.
 fn blocks(n: u16) -> u16
     ensures { λ r. ⌜ r ≡ blocks n ⌝ }
 {
-    n / 16
+    ((n as u32 + 15) / 16) as u16
 }
 
 // The header of what the three stages read; its partition sizes are still to come.

@@ -177,9 +177,9 @@ pub struct Header {
     pub header_size: u32,
     // Beyond the Rust: the coded bools of the header.
     pub bools: u32,
-    // Beyond the Rust: the whole macroblocks across.
+    // Beyond the Rust: the macroblocks across, the last one filled up.
     pub mb_cols: u16,
-    // Beyond the Rust: the whole macroblocks down.
+    // Beyond the Rust: the macroblocks down, the last ones filled up.
     pub mb_rows: u16,
 }
 

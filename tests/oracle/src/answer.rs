@@ -18,6 +18,11 @@ pub const NUMBERS: [(&str, usize); 50] = [
 
 pub const BOOLS: usize = 47;
 
+/// Macroblock columns of a width, or rows of a height, which the Rust does not tell: rounded up.
+pub fn blocks(n: i64) -> i64 {
+    n / 16 + (n % 16 != 0) as i64
+}
+
 /// Where a number of that name stands.
 pub fn at(name: &str) -> usize {
     NUMBERS.iter().position(|(n, _)| *n == name).unwrap_or_else(|| panic!("no header number {name}"))

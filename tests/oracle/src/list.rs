@@ -283,7 +283,7 @@ pub fn sequences(streams: &[Stream]) -> Fixed {
         for i in 0..4u8 {
             let mut s = Spec { version, show: i % 2 == 0, log2: 0, ..gen::drawn(rng, i < 2, 0) };
             s.width = [0, 1, 15, 16, 17, 31, 8192, 16_383][(version + i) as usize % 8];
-            s.height = [16_383, 0, 16, 47, 4095, 1, 15, 0][version as usize];
+            s.height = [16_383, 0, 16, 47, 4095, 1, 15, 1080][version as usize];
             (s.hscale, s.vscale) = (version % 4, (version / 2 + i) % 4);
             frames.push(written(&s, s.frame(&[], &[7])));
         }

@@ -1,6 +1,6 @@
 //! The rules of docs/RULES.md written out a second time, from their words, to be held against the Rust.
 
-use crate::answer::{Answer, COEFFS, KEPT, MOTION, NUMBERS, PROBS};
+use crate::answer::{blocks, Answer, COEFFS, KEPT, MOTION, NUMBERS, PROBS};
 use crate::bare::Read;
 use crate::codec::vp8::probs;
 
@@ -158,7 +158,7 @@ impl Rules {
         if key {
             let (w, h) = (little(&f[6..8]) as i64, little(&f[8..10]) as i64);
             named.extend([("w", w % 16384), ("h", h % 16384), ("hs", w / 16384), ("vs", h / 16384)]);
-            named.extend([("cols", w % 16384 / 16), ("rows", h % 16384 / 16)]);
+            named.extend([("cols", blocks(w % 16384)), ("rows", blocks(h % 16384))]);
         }
         let mut d = Dec::new(area);
         let k = &mut self.kept;

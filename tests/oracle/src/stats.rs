@@ -162,6 +162,11 @@ impl Stats {
         all("w", &only_key, 16_383..16_384);
         all("h", &only_key, 0..2);
         all("h", &only_key, 16_383..16_384);
+        for name in ["cols", "rows"] {
+            all(name, &only_key, 0..4);
+            all(name, &only_key, 68..69);
+            all(name, &only_key, 1024..1025);
+        }
         all("count", &both, 0..8);
         all("value", &only_inter, 0..100);
         for name in ["q1", "q2", "q3", "q4", "q5"] {
