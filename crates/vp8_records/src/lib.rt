@@ -179,7 +179,7 @@ pub struct Header {
     pub bools: u32,
     // Beyond the Rust: the macroblocks across, the last one filled up.
     pub mb_cols: u16,
-    // Beyond the Rust: the macroblocks down, the last ones filled up.
+    // Beyond the Rust: the macroblocks down, the last one filled up.
     pub mb_rows: u16,
 }
 
