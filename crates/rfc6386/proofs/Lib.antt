@@ -4,6 +4,7 @@ pub mod Trees
 pub mod Range
 pub mod Counts
 pub mod Accepts
+pub mod Peek
 pub mod Holds
 pub mod Fills
 pub mod Covers

@@ -1,5 +1,5 @@
 -- The second step of a call: what a frame's words make of the kept numbers (docs/RULES.md: what is kept, and the table of refusals).
-use Prim.Native.Nat.{ℕ, _+_, _/_, _%_, _^_}
+use Prim.Native.Nat.{ℕ, _+_, _/_}
 use mathlib.Core.Bool.{Bool, false}
 use mathlib.Core.Option.{Option, none, some}
 use mathlib.Core.List.{List, [], _∷_, _++_}
@@ -19,7 +19,7 @@ use Rattle.vp8_records.specs.Start.{fresh, keyModes, blank}
 use Rattle.rfc6386.specs.Decoder.{pick}
 use Rattle.rfc6386.specs.Runs.{or, over}
 use Rattle.rfc6386.specs.Coded.{Coded, Segments, Deltas}
-use Rattle.rfc6386.specs.Frame.{Chunk, Snapshot, beyond, empty, read, Said, refused, follows, decode}
+use Rattle.rfc6386.specs.Frame.{Chunk, pixels, scale, Snapshot, beyond, empty, read, Said, refused, follows, decode}
 
 unfoldable pub segmented : Segments → Segmentation → Segmentation
 segmented c g = record {
@@ -112,10 +112,10 @@ headerOf k c s ss q = record {
   «show_frame» = k .show;
   «data_chunk_size» = k .size;
   «first_part_size» = k .first;
-  «width» = k .width % 2 ^ 14;
-  «height» = k .height % 2 ^ 14;
-  «horiz_scale_code» = k .width / 2 ^ 14;
-  «vert_scale_code» = k .height / 2 ^ 14;
+  «width» = pixels (k .width);
+  «height» = pixels (k .height);
+  «horiz_scale_code» = scale (k .width);
+  «vert_scale_code» = scale (k .height);
   «color_space» = c .colorSpace;
   «clamping_type» = c .clamping;
   «filter_type» = c .filterType;
@@ -145,8 +145,8 @@ headerOf k c s ss q = record {
   «bd_count» = s .count;
   «header_size» = s .position;
   «bools» = s .bools;
-  «mb_cols» = blocks (k .width % 2 ^ 14);
-  «mb_rows» = blocks (k .height % 2 ^ 14);
+  «mb_cols» = blocks (pixels (k .width));
+  «mb_rows» = blocks (pixels (k .height));
 }
 
 -- what a valid key-frame chunk resets to

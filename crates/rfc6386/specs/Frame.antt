@@ -23,6 +23,13 @@ pub record Chunk : Type 0 where
   pub width : ℕ
   pub height : ℕ
 
+-- the pixels of one of the two, and its scale code
+abbrev pub pixels : ℕ → ℕ
+pixels n = n % 2 ^ 14
+
+abbrev pub scale : ℕ → ℕ
+scale n = n / 2 ^ 14
+
 -- the fields of the tag, in 3 bytes
 abbrev pub tagged : ℕ → Bool → ℕ → ℕ → ℕ → Chunk
 tagged tag key size width height = record {

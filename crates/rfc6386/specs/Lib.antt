@@ -3,8 +3,9 @@
 --   1. A frame's bytes say something, whatever the parser kept (Frame): the chunk, then, by a tree of reads (Coded, Reads) that the
 --      boolean decoder runs (Decoder), the coded fields, the decoder's snapshot and the partition sizes.
 --   2. What it says and the kept numbers make the answer: the outcome, the header and the new kept numbers (Call).
--- Fills says what it means that the parts of a frame fill it, Covers that macroblocks cover a picture, and Holds what holds of every header
--- whatever the bytes. The tables are vp8_probs' Tables; the records with their starting values are vp8_records'.
+-- Peek is what the first ten bytes tell, by the same reading of the chunk. Fills says what it means that the parts of a frame fill it,
+-- Covers that macroblocks cover a picture, and Holds what holds of every header whatever the bytes. The tables are vp8_probs' Tables; the
+-- records with their starting values are vp8_records'.
 pub mod Bytes
 pub mod Decoder
 pub mod Reads
@@ -12,6 +13,7 @@ pub mod Runs
 pub mod Coded
 pub mod Frame
 pub mod Call
+pub mod Peek
 pub mod Fills
 pub mod Covers
 pub mod Holds

@@ -1,6 +1,6 @@
 -- One call: a cutter forgets what was kept, and any frame writes what the rules say (`writes`) over what it started from. By cases
 -- on the outcome, with the refusal table.
-use Prim.Native.Nat.{ℕ, zero-le, _≤_}
+use Prim.Native.Nat.{ℕ, zero-le, _^_, _≤_, _<_}
 use native.Mathlib.Omega.{arith}
 use mathlib.Core.Path.{_≡_, refl, sym, ap, _∙_}
 use mathlib.Core.Bool.{Bool, true, false, false≢true, not, _&&_, _||_, and-false}
@@ -20,6 +20,8 @@ use Rattle.rfc6386.specs.Runs.{or, over}
 use Rattle.rfc6386.specs.Coded.{Coded}
 use Rattle.rfc6386.specs.Frame.{Chunk, keyed, Opened, shut, opened, chunk, Body, beyond, empty, read, body, follows, inside, decode}
 use Rattle.rfc6386.specs.Call.{apply, cleared, reset, finish, call}
+use Rattle.rfc6386.specs.Peek.{looked, peek, keySeen}
+use Rattle.rfc6386.proofs.Peek.{peek-chunk}
 use Rattle.rfc6386_history.specs.Refusals.{keyOf, rightCode, tooLong, opens, coded, outcomeOf, baseOf, left}
 use Rattle.rfc6386_history.specs.Kept.{numbers, kept}
 use Rattle.vp8_records.specs.Shape.{Sized}
@@ -49,6 +51,14 @@ cutter-opens f =
     go false false true false true false m n = refl
     go false false true false false true m n = refl
     go false false true false false false m n = refl
+
+-- so under 2^28 bytes a look at the first ten tells a cutter
+pub cutter-seen : (f : List ℕ) → length f < 2 ^ 28 → cutter f ≡ keySeen (peek f)
+cutter-seen f h = cutter-opens f ∙ go (chunk f) (opens f) (chunk-opens f) ∙ ap keySeen (sym (peek-chunk f h))
+  where
+    go : (x : Opened) (o : Bool) → Opens x (keyOf f) o → o && keyOf f ≡ keySeen (looked x)
+    go (shut u) b e = rw e
+    go (opened k) b e = rw (e .1) (sym (e .0))
 
 pub forgets-body : (p q : Parser) (k : Chunk) (b : Body) → k .key ≡ true → finish (follows k b) p ≡ finish (follows k b) q
 forgets-body p q k (beyond end n) h = rw h

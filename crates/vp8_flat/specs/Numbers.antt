@@ -1,10 +1,11 @@
--- The numbers of a header and of an outcome, in the order of a dump line.
+-- The numbers of a header, of a look and of an outcome, in the order of a dump line.
 use Prim.Native.Nat.{ℕ, zero, suc}
 use mathlib.Core.List.{List, [], _∷_, _++_}
 use lib.ListN.{getD}
 use mir.Val.{ofZ}
 use mir.Syntax.{w8}
 use Rattle.vp8_records.specs.declared.Header.{Header}
+use Rattle.vp8_records.specs.declared.Look.{Look}
 use Rattle.vp8_records.specs.declared.QuantIndices.{QuantIndices}
 use Rattle.vp8_records.specs.declared.Outcome.{Outcome}
 use Rattle.vp8_records.specs.Outcome.{numberOf, carriedBy}
@@ -75,3 +76,15 @@ flagsOf h =
 
 abbrev pub tailOf : Header → List ℕ
 tailOf h = h .«bd_range» ∷ h .«bd_value» ∷ h .«bd_count» ∷ h .«header_size» ∷ h .bools ∷ h .«mb_cols» ∷ h .«mb_rows» ∷ []
+
+abbrev pub lookOf : Look → List ℕ
+lookOf l =
+    bitOf (l .«key_frame»)
+    ∷ l .version
+    ∷ bitOf (l .«show_frame»)
+    ∷ l .«first_part_size»
+    ∷ l .width
+    ∷ l .height
+    ∷ l .«horiz_scale_code»
+    ∷ l .«vert_scale_code»
+    ∷ []

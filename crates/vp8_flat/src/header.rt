@@ -1,12 +1,13 @@
-// The numbers of a header and of an outcome, in the order in which a line of the dump has them.
+// The numbers of a header, of a look and of an outcome, in the order in which a line of the dump has them.
 use crate::bit;
 use crate::byte_of;
 use vp8_records::Header;
+use vp8_records::Look;
 use vp8_records::Outcome;
 use vp8_records::QuantIndices;
 ghost use mathlib.Core.Path.{_≡_};
 ghost use Prim.Native.Nat.{_≤_};
-ghost use Rattle.vp8_flat.specs.Numbers.{partitionCount, shapeOf, quantOf, flagsOf, tailOf, carriedOf};
+ghost use Rattle.vp8_flat.specs.Numbers.{partitionCount, shapeOf, quantOf, flagsOf, tailOf, lookOf, carriedOf};
 
 // What a refusal carries: 2 its code, 3 the end and the length, 6 the length; else zeros. The number is 0 where the frame is accepted.
 pub struct Carried {
@@ -153,5 +154,21 @@ pub fn tail(h: Header) -> [u32; 7]
         h.bools,
         wide16(h.mb_cols),
         wide16(h.mb_rows),
+    ]
+}
+
+// What a look tells.
+pub fn look(l: Look) -> [u32; 8]
+    ensures { λ r. ⌜ r ≡ lookOf l ⌝ }
+{
+    [
+        wide(bit(l.key_frame)),
+        wide(l.version),
+        wide(bit(l.show_frame)),
+        l.first_part_size,
+        wide16(l.width),
+        wide16(l.height),
+        wide(l.horiz_scale_code),
+        wide(l.vert_scale_code),
     ]
 }

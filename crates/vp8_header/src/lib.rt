@@ -12,7 +12,7 @@ ghost use mathlib.Core.Path.{_≡_};
 ghost use mathlib.Core.Bool.{true, false};
 ghost use Rattle.vp8_records.specs.Start.{keyModes};
 ghost use Rattle.rfc6386.specs.Decoder.{bits, pick};
-ghost use Rattle.rfc6386.specs.Frame.{snapshot};
+ghost use Rattle.rfc6386.specs.Frame.{pixels, scale, snapshot};
 ghost use Rattle.rfc6386.specs.Reads.{when, make};
 ghost use Rattle.rfc6386.specs.Coded.{refresh, inter, noInter};
 ghost use Rattle.rfc6386.specs.Call.{keeping, probsOf, blocks};
@@ -386,6 +386,20 @@ fn kept(
     }
 }
 
+// The pixels of a width or a height as it is coded.
+pub fn pixels(code: u16) -> u16
+    ensures { λ r. ⌜ r ≡ pixels code ⌝ }
+{
+    code % 16384
+}
+
+// Its scale code.
+pub fn scale(code: u16) -> u8
+    ensures { λ r. ⌜ r ≡ scale code ⌝ }
+{
+    (code / 16384) as u8
+}
+
 // Macroblock columns of a width, or rows of a height; wider than a u16 on the way, since 15 more may not fit.
 fn blocks(n: u16) -> u16
     ensures { λ r. ⌜ r ≡ blocks n ⌝ }
@@ -405,10 +419,10 @@ fn header_of(
     requires { ⌜ Over (now area) dec ⌝ }
     ensures { λ r. ⌜ Heads r chunk first second third (snapshot (bits (now (area .entry))) (stateOf (now (area .entry)) dec)) ⌝ }
 {
-    let width = chunk.width_code % 16384;
-    let height = chunk.height_code % 16384;
-    let horiz_scale_code = (chunk.width_code / 16384) as u8;
-    let vert_scale_code = (chunk.height_code / 16384) as u8;
+    let width = pixels(chunk.width_code);
+    let height = pixels(chunk.height_code);
+    let horiz_scale_code = scale(chunk.width_code);
+    let vert_scale_code = scale(chunk.height_code);
     let inter = third.inter;
     let refresh = second.refresh;
     let quant_indices = second.quant_indices;

@@ -4,9 +4,8 @@ use native.Mathlib.Omega.{arith}
 use mathlib.Core.Path.{_≡_, refl, sym, ap, subst, _∙_}
 use mathlib.Core.Bool.{Bool, true, false}
 use mathlib.Core.List.{List, [], _∷_}
-use lib.Dec.{leb}
 use lib.ListN.{length, drop}
-use borrow.Author.Tests.{lt-ltb, le-ltb, le-leb, lt-leb, leb-false, eq-eqb, ne-eqb}
+use borrow.Author.Tests.{lt-ltb, le-ltb, le-leb, lt-leb, eq-eqb, ne-eqb}
 use Rattle.vp8_records.specs.declared.Outcome.the-variants.{ChunkTooShort, InvalidStartCode, FrameTooLong}
 use Rattle.rfc6386.specs.Bytes.{le2, le3}
 use Rattle.rfc6386.specs.Frame.{Chunk, tagged, Opened, shut, opened, keyChunk, chunk, Body, beyond, empty, decoded, headed, body}
@@ -58,16 +57,6 @@ module _ (f : List ℕ) where
   pub chunk-inter : length f < 2 ^ 28 → 3 ≤ length f → (le3 f 0 % 2 ≡ 0 → ⊥) → opened (tagged (le3 f 0) false 3 0 0) ≡ chunk f
   unfolding chunk
   chunk-inter h g n = sym (no-test _ _ (lt-leb _ _ h) ∙ no-test _ _ (le-ltb _ _ g) ∙ no-test _ _ (ne-eqb (le3 f 0 % 2) 0 n))
-
--- a frame that is opened is short enough
-pub opened-fits : (f : List ℕ) (k : Chunk) → opened k ≡ chunk f → length f < 2 ^ 28
-unfolding chunk
-opened-fits f k = go (leb (2 ^ 28) (length f)) refl _
-  where
-    go : (b : Bool) → leb (2 ^ 28) (length f) ≡ b → (x : Opened)
-        → opened k ≡ elim b [ true ↦ shut (FrameTooLong (length f)) | false ↦ x ] → length f < 2 ^ 28
-    go true e x h = absurd (let z : _≡_ {A = ℕ} 0 1 = cc in omega arith)
-    go false e x h = leb-false _ _ e
 
 module _ (k : Chunk) (f : List ℕ) where
   pub body-beyond : length f < k .size + k .first → body k f ≡ beyond (k .size + k .first) (length f)

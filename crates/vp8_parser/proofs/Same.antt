@@ -1,14 +1,18 @@
 -- Any two answers that a contract admits are equal: the contracts are equations with the definition.
 use Prim.Native.Nat.{ℕ}
-use mathlib.Core.Path.{_≡_, sym, ap, _∙_}
+use mathlib.Core.Path.{_≡_, refl, sym, ap, _∙_}
 use mathlib.Core.Bool.{Bool}
 use mathlib.Core.List.{List}
 use native.Mathlib.Omega.{arith}
 use Rattle.vp8_records.specs.declared.Outcome.{Outcome}
 use Rattle.vp8_records.specs.declared.Parsed.{Parsed}
 use Rattle.vp8_records.specs.declared.Parser.{Parser}
+use Rattle.vp8_records.specs.declared.Look.{Look}
+use Rattle.vp8_records.specs.declared.Peeked.{Peeked}
+use Rattle.vp8_records.specs.declared.Peeked.the-variants.{Seen, TooShort, StartCode}
 use Rattle.rfc6386.specs.Frame.{Chunk, Opened, shut, opened, chunk}
 use Rattle.rfc6386.specs.Call.{call}
+use Rattle.rfc6386.specs.Peek.{peek, peekOf}
 use Rattle.vp8_header.specs.declared.DataChunk.{DataChunk}
 use Rattle.vp8_header.specs.Headed.{chunkOf}
 use Rattle.vp8_parser.specs.declared.ChunkAnswer.{ChunkAnswer}
@@ -39,3 +43,18 @@ parse-uncompressed-data-chunk f r q a b = same-opened r q (a ∙ sym b)
 
 pub parse : (p : Parser) (f : List ℕ) (r q : Parsed) → r ≡ call p f → q ≡ call p f → r ≡ q
 parse p f r q a b = a ∙ sym b
+
+-- each case of a look stands for another answer of the definition
+pub same-look : (r q : Peeked) → peekOf r ≡ peekOf q → r ≡ q
+same-look (Seen l) (Seen m) e = let h : l ≡ m = cc in ap Seen h
+same-look TooShort TooShort e = refl
+same-look (StartCode c) (StartCode d) e = let h : c ≡ d = cc in ap StartCode h
+same-look (Seen l) TooShort e = absurd (let z : _≡_ {A = ℕ} 0 1 = cc in omega arith)
+same-look (Seen l) (StartCode d) e = absurd (let z : _≡_ {A = ℕ} 0 1 = cc in omega arith)
+same-look TooShort (Seen m) e = absurd (let z : _≡_ {A = ℕ} 0 1 = cc in omega arith)
+same-look TooShort (StartCode d) e = absurd (let z : _≡_ {A = ℕ} 0 1 = cc in omega arith)
+same-look (StartCode c) (Seen m) e = absurd (let z : _≡_ {A = ℕ} 0 1 = cc in omega arith)
+same-look (StartCode c) TooShort e = absurd (let z : _≡_ {A = ℕ} 0 1 = cc in omega arith)
+
+pub peek-one : (f : List ℕ) (r q : Peeked) → peekOf r ≡ peek f → peekOf q ≡ peek f → r ≡ q
+peek-one f r q a b = same-look r q (a ∙ sym b)

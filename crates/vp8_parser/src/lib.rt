@@ -1,17 +1,20 @@
-// The frame of parser.rs: chunk, header, partition sizes, state and outcome, as one call by value.
+// The frame of parser.rs: chunk, header, partition sizes, state and outcome, as one call by value; and a look at the first ten bytes.
 use vp8_header::DataChunk;
 use vp8_records::Header;
+use vp8_records::Look;
 use vp8_records::Outcome;
 use vp8_records::Parsed;
 use vp8_records::Parser;
+use vp8_records::Peeked;
 ghost use mathlib.Core.Path.{_≡_};
 ghost use mathlib.Core.Bool.{true, false};
 ghost use mathlib.Core.Option.{none};
 ghost use Prim.Native.Nat.{_^_, _<_, _≤_};
-ghost use lib.ListN.{length};
+ghost use lib.ListN.{length, take};
 ghost use Rattle.vp8_records.specs.Start.{blank};
 ghost use Rattle.rfc6386.specs.Frame.{tagged, keyChunk, chunk, codedSizes, sizes, body, follows};
 ghost use Rattle.rfc6386.specs.Call.{cleared, base, answer, finish, call};
+ghost use Rattle.rfc6386.specs.Peek.{look, barred, peek, peekOf, Early};
 ghost use Rattle.vp8_header.specs.Headed.{chunkOf};
 ghost use Rattle.vp8_parser.specs.Answers.{openedOf, listedOf, sizesOf, sizedOf};
 
@@ -89,6 +92,55 @@ pub fn parse_uncompressed_data_chunk(bytes: &[u8]) -> ChunkAnswer
         return key_chunk(bytes);
     }
     ChunkAnswer::Read(tagged(tag, false, 3, 0, 0))
+}
+
+// The first ten bytes, or all where there are no more.
+fn first_ten(bytes: &[u8]) -> &[u8]
+    ensures { λ r. ⌜ now r ≡ take 10 (now (bytes .entry)) ⌝ }
+{
+    if 10 < bytes.len() {
+        &bytes[..10]
+    } else {
+        bytes
+    }
+}
+
+// What a chunk tells.
+fn look(chunk: DataChunk) -> Look
+    ensures { λ r. ⌜ r ≡ look (chunkOf chunk) ⌝ }
+{
+    Look {
+        key_frame: chunk.key_frame,
+        version: chunk.version,
+        show_frame: chunk.show_frame,
+        first_part_size: chunk.first_part_size,
+        width: vp8_header::pixels(chunk.width_code),
+        height: vp8_header::pixels(chunk.height_code),
+        horiz_scale_code: vp8_header::scale(chunk.width_code),
+        vert_scale_code: vp8_header::scale(chunk.height_code),
+    }
+}
+
+// Refusal 2, or 1.
+fn barred(outcome: Outcome) -> Peeked
+    requires { ⌜ Early outcome ⌝ }
+    ensures { λ r. ⌜ peekOf r ≡ barred outcome ⌝ }
+{
+    if let Outcome::InvalidStartCode(code) = outcome {
+        Peeked::StartCode(code)
+    } else {
+        Peeked::TooShort
+    }
+}
+
+// A look at the first ten bytes of a frame, or at all where there are fewer (RFC 6386 section 9.1): what they tell, or refusal 1 or 2.
+pub fn peek(first: &[u8]) -> Peeked
+    ensures { λ r. ⌜ peekOf r ≡ peek (now (first .entry)) ⌝ }
+{
+    match parse_uncompressed_data_chunk(first_ten(first)) {
+        ChunkAnswer::Refused(outcome) => barred(outcome),
+        ChunkAnswer::Read(chunk) => Peeked::Seen(look(chunk)),
+    }
 }
 
 // How many partitions hold coefficients.

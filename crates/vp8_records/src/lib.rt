@@ -215,6 +215,36 @@ pub enum Outcome {
     FrameTooLong(usize),
 }
 
+// What the first ten bytes of a frame tell of it; each field is the header's of the same name (RFC 6386 section 9.1).
+pub struct Look {
+    // Whether it is a key frame (9.1).
+    pub key_frame: bool,
+    // The version, which picks filters (9.1).
+    pub version: u8,
+    // Whether it is meant to be shown (9.1).
+    pub show_frame: bool,
+    // The bytes of the first partition (9.1).
+    pub first_part_size: u32,
+    // The width in pixels, of a key frame (9.1).
+    pub width: u16,
+    // The height in pixels, of a key frame (9.1).
+    pub height: u16,
+    // How to scale up across, of a key frame (9.1).
+    pub horiz_scale_code: u8,
+    // How to scale up downwards, of a key frame (9.1).
+    pub vert_scale_code: u8,
+}
+
+// The answer of a look at the first bytes, which refuses by 1 and 2 alone.
+pub enum Peeked {
+    // What they tell.
+    Seen(Look),
+    // Refusal 1: the chunk is cut short.
+    TooShort,
+    // Refusal 2, with the code found.
+    StartCode(u32),
+}
+
 // The answer of a call. The header holds arrays, so it stands beside the outcome.
 pub struct Parsed {
     // How it went.

@@ -238,6 +238,7 @@ fn framed(replay: Replay, case: u32, size: u32, probs: &mut [u8], kept: &mut [u8
         Came::Frame => frame(replay, case, &buffer[..count], probs, kept),
         Came::TooLarge => wrong(replay, b"too large"),
         Came::Fresh => wrong(replay, b"cut short"),
+        Came::Look => wrong(replay, b"cut short"),
         Came::End => wrong(replay, b"cut short"),
         Came::CutShort => wrong(replay, b"cut short"),
     }

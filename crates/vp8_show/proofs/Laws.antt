@@ -10,6 +10,7 @@ use lib.Dec.{eqb}
 use lib.IntN.{ℤ}
 use lib.ListN.{length, getD, take, drop, drop-of-length-le}
 use lib.Seq.{drop-cons, length-take-le, getD-take}
+use denote.Enum.Declared.{tagOf}
 use mir.Syntax.{w8, w32}
 use mir.Val.{SFits, toZ, ofZ}
 use mir.Facts.{toZ-ofZ, sfits-widen}
@@ -17,7 +18,11 @@ use borrow.Author.Tests.{eq-eqb, ne-eqb}
 use Rattle.vp8_records.specs.declared.Header.{Header}
 use Rattle.vp8_records.specs.declared.Parsed.{Parsed}
 use Rattle.vp8_records.specs.declared.Outcome.{Outcome}
-use Rattle.vp8_records.specs.declared.Outcome.the-variants.{InvalidPartitionSize}
+use Rattle.vp8_records.specs.declared.Outcome.the-variants.{ChunkTooShort, InvalidStartCode, InvalidPartitionSize}
+use Rattle.vp8_records.specs.declared.Look.{Look}
+use Rattle.vp8_records.specs.declared.Peeked.{Peeked}
+use Rattle.vp8_records.specs.declared.Peeked.the-variants.{Seen, TooShort, StartCode}
+use Rattle.vp8_records.proofs.Peeked.{the-type}
 use Rattle.vp8_records.specs.Outcome.{numberOf}
 use Rattle.vp8_records.specs.Start.{fresh, blank}
 use Rattle.rfc6386.specs.Call.{answer}
@@ -26,10 +31,10 @@ use Rattle.text.specs.Digits.{hexOf, digitsOf, decimalOf, signedOf}
 use Rattle.text.specs.Template.{ascii, filled}
 use Rattle.text.proofs.Puts.{puts-append, puts-nil}
 use Rattle.vp8_flat.specs.declared.header.Carried.{Carried}
-use Rattle.vp8_flat.specs.Numbers.{shapeOf, carriedOf, partitionCount}
-use Rattle.vp8_show.specs.Refusal.{carriedText, refusalText}
-use Rattle.vp8_show.specs.Printed.{frameLine, partitionLine, partitionLines, firstStart, acceptedText, printed}
-use Rattle.vp8_show.specs.Dumped.{deltaText, headerText, answerText}
+use Rattle.vp8_flat.specs.Numbers.{shapeOf, lookOf, carriedOf, partitionCount}
+use Rattle.vp8_show.specs.Refusal.{carriedText, refusalText, lookText}
+use Rattle.vp8_show.specs.Printed.{frameLine, partitionLine, partitionLines, firstStart, acceptedText, printed, printedLook}
+use Rattle.vp8_show.specs.Dumped.{deltaText, headerText, answerText, dumpedLook}
 
 -- a turn of the loop over the first `count` sizes, and its end
 pub turn : (t u v : Text) (sizes : List ℕ) (count i from n : ℕ) → i < count → count ≤ length sizes → n ≡ getD sizes i 0
@@ -119,6 +124,34 @@ pub dump-refused : (p : Parsed) (n : ℕ) → n ≡ numberOf (p .outcome) → (n
 unfolding answerText
 dump-refused p n e z = rw (number-other p n e z)
 
+-- a look by its case
+pub look-seen : (template word code : List ℕ) (r : Peeked) (l : Look) (ns : List ℕ) → r ≡ Seen l → ns ≡ lookOf l
+    → filled template ns ≡ lookText template word code r
+unfolding lookText
+look-seen template word code r l ns e d = rw (e, d)
+
+pub look-short : (template word code : List ℕ) (r : Peeked) → tagOf the-type r ≡ 1
+    → refusalText word code [] [] ChunkTooShort ≡ lookText template word code r
+unfolding lookText
+look-short template word code (Seen l) e = absurd (omega (arith, e))
+look-short template word code TooShort e = refl
+look-short template word code (StartCode n) e = absurd (omega (arith, e))
+
+pub look-code : (template word code : List ℕ) (r : Peeked) (n : ℕ) → r ≡ StartCode n
+    → refusalText word code [] [] (InvalidStartCode n) ≡ lookText template word code r
+unfolding lookText
+look-code template word code r n e = rw e
+
+pub print-look : (r : Peeked)
+    → lookText (ascii "key | version | show | first | size |x| scale |x|") (ascii "refused ") (ascii " code ") r ++ (10 ∷ []) ≡ printedLook r
+unfolding printedLook
+print-look r = refl
+
+pub dump-look : (r : Peeked)
+    → lookText (ascii "peek key=| ver=| show=| first=| w=| h=| hs=| vs=|") (ascii "peek err ") (ascii " code=") r ≡ dumpedLook r
+unfolding dumpedLook
+dump-look r = refl
+
 -- an i8 passed on as an i32
 pub signed-is : (z r : ℤ) → SFits w8 z → r ≡ toZ w8 (ofZ w8 z) → signedOf (toZ w32 (ofZ w32 r)) ≡ signedOf z
 signed-is z r f e =
@@ -134,6 +167,20 @@ pub hex-is : (t u : Text) (name xs ys : List ℕ) → u ≡ puts t (name ++ hexO
 hex-is t u name xs ys e d = e ∙ ap (λ (l : List ℕ). puts t (name ++ hexOf l)) d
 
 -- examples, by computation
+look-example : printedLook (Seen (record {
+  «key_frame» = true;
+  «version» = 0;
+  «show_frame» = true;
+  «first_part_size» = 1;
+  «width» = 176;
+  «height» = 144;
+  «horiz_scale_code» = 3;
+  «vert_scale_code» = 1;
+}))
+    ≡ ascii "key 1 version 0 show 1 first 1 size 176x144 scale 3x1\n"
+unfolding printedLook lookText filled decimalOf digitsOf
+look-example = refl
+
 refusal-example : printed (answer (InvalidPartitionSize 11 10) blank fresh) ≡ ascii "refused 3 end 11 length 10\n"
 unfolding printed refusalText carriedText decimalOf digitsOf
 refusal-example = refl

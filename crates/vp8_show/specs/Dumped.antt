@@ -8,13 +8,14 @@ use lib.IntN.{ℤ}
 use Rattle.vp8_records.specs.declared.QuantIndices.{QuantIndices}
 use Rattle.vp8_records.specs.declared.Header.{Header}
 use Rattle.vp8_records.specs.declared.Parsed.{Parsed}
+use Rattle.vp8_records.specs.declared.Peeked.{Peeked}
 use Rattle.vp8_records.specs.Outcome.{numberOf}
 use Rattle.vp8_records.specs.Layout.{flatCoeffs, flatMv}
 use Rattle.text.specs.Digits.{hexOf, decimalOf, signedOf}
 use Rattle.text.specs.Template.{ascii, filled}
 use Rattle.vp8_flat.specs.Bytes.{flatModes, keptBytes}
 use Rattle.vp8_flat.specs.Numbers.{shapeOf, flagsOf, tailOf}
-use Rattle.vp8_show.specs.Refusal.{refusalText}
+use Rattle.vp8_show.specs.Refusal.{refusalText, lookText}
 
 -- the tag, the sizes, the filter and the partitions
 unfoldable pub shapeText : Header → List ℕ
@@ -57,3 +58,7 @@ answerText p =
 
 unfoldable pub dumped : Parsed → List ℕ
 dumped p = answerText p ++ (ascii " st=" ++ hexOf (keptBytes (p .parser)))
+
+-- the line of a look, without its end; a look keeps nothing, so no kept numbers follow
+unfoldable pub dumpedLook : Peeked → List ℕ
+dumpedLook r = lookText (ascii "peek key=| ver=| show=| first=| w=| h=| hs=| vs=|") (ascii "peek err ") (ascii " code=") r

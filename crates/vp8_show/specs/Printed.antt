@@ -7,11 +7,12 @@ use lib.Dec.{eqb}
 use lib.ListN.{take}
 use Rattle.vp8_records.specs.declared.Header.{Header}
 use Rattle.vp8_records.specs.declared.Parsed.{Parsed}
+use Rattle.vp8_records.specs.declared.Peeked.{Peeked}
 use Rattle.vp8_records.specs.Outcome.{numberOf}
 use Rattle.text.specs.Template.{ascii, filled}
 use Rattle.vp8_flat.specs.Bytes.{bitOf}
 use Rattle.vp8_flat.specs.Numbers.{partitionCount}
-use Rattle.vp8_show.specs.Refusal.{refusalText}
+use Rattle.vp8_show.specs.Refusal.{refusalText, lookText}
 
 unfoldable pub frameLine : Header → List ℕ
 frameLine h =
@@ -48,3 +49,7 @@ unfoldable pub printed : Parsed → List ℕ
 printed p =
     cond (eqb (numberOf (p .outcome)) 0) (acceptedText (p .header))
     (refusalText (ascii "refused ") (ascii " code ") (ascii " end ") (ascii " length ") (p .outcome) ++ ascii "\n")
+
+-- what the looking program prints
+unfoldable pub printedLook : Peeked → List ℕ
+printedLook r = lookText (ascii "key | version | show | first | size |x| scale |x|") (ascii "refused ") (ascii " code ") r ++ ascii "\n"

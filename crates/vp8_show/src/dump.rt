@@ -1,16 +1,18 @@
 // The line of the dump: `ok` and every number of the header, or `err` and the refusal, and at the end the kept numbers after the call.
+use crate::looked;
 use crate::named;
 use crate::refused;
 use crate::wide8;
 use vp8_records::Header;
 use vp8_records::Parsed;
+use vp8_records::Peeked;
 use vp8_records::QuantIndices;
 ghost use mathlib.Core.Path.{_≡_};
 ghost use mathlib.Core.List.{_++_};
 ghost use Rattle.text.specs.Text.{text, puts};
 ghost use Rattle.text.specs.Digits.{hexOf};
 ghost use Rattle.vp8_show.specs.Dumped.{shapeText, deltaText, quantText, flagsText};
-ghost use Rattle.vp8_show.specs.Dumped.{probsText, tailText, headerText, answerText, dumped};
+ghost use Rattle.vp8_show.specs.Dumped.{probsText, tailText, headerText, answerText, dumped, dumpedLook};
 
 // The tag, the sizes, the filter and the partitions.
 fn shape(out: &mut [u8], at: usize, h: Header) -> usize
@@ -132,4 +134,18 @@ pub fn line(out: &mut [u8], at: usize, parsed: Parsed) -> usize
     let kept = vp8_flat::kept(parser);
     let to = answer(out, at, parsed);
     named_bytes(out, to, b" st=", &kept)
+}
+
+// The line of a look, without its end; under 256 bytes.
+pub fn look(out: &mut [u8], at: usize, peeked: Peeked) -> usize
+    ensures { λ r. ⌜ text (now (out .exit)) r ≡ puts (text (now (out .entry)) at) (dumpedLook peeked) ⌝ }
+{
+    looked(
+        out,
+        at,
+        peeked,
+        b"peek key=| ver=| show=| first=| w=| h=| hs=| vs=|",
+        b"peek err ",
+        b" code=",
+    )
 }

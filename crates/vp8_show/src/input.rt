@@ -1,5 +1,5 @@
 // A record from standard input: a 4-byte little-endian length (at most 65,536) and that many bytes of a frame; the length FFFFFFFF, with
-// nothing after it, asks for a fresh parser.
+// nothing after it, asks for a fresh parser, and FFFFFFFC that the next frame be only looked at.
 use lines::Number;
 ghost use Rattle.io.specs.Counts.{Counts};
 
@@ -7,6 +7,7 @@ ghost use Rattle.io.specs.Counts.{Counts};
 pub enum Came {
     Frame,
     Fresh,
+    Look,
     End,
     TooLarge,
     CutShort,
@@ -56,6 +57,12 @@ pub fn take(frame: &mut [u8]) -> Record
             if size == 0xffffffff {
                 return Record {
                     came: Came::Fresh,
+                    count: 0,
+                };
+            }
+            if size == 0xfffffffc {
+                return Record {
+                    came: Came::Look,
                     count: 0,
                 };
             }

@@ -6,12 +6,13 @@ pub mod print;
 
 use vp8_flat::header::Carried;
 use vp8_records::Outcome;
+use vp8_records::Peeked;
 ghost use mathlib.Core.Path.{_≡_};
 ghost use mathlib.Core.List.{[], _∷_, _++_};
 ghost use Prim.Native.Nat.{_<_};
 ghost use Rattle.text.specs.Text.{text, puts};
 ghost use Rattle.text.specs.Digits.{decimalOf};
-ghost use Rattle.vp8_show.specs.Refusal.{carriedText, refusalText};
+ghost use Rattle.vp8_show.specs.Refusal.{carriedText, refusalText, lookText};
 
 fn wide(n: u32) -> u64
     ensures { λ r. ⌜ (r ≡ n) × (r < 4294967296) ⌝ }
@@ -71,4 +72,28 @@ fn refused(
     let refusal = vp8_flat::header::refusal(outcome);
     let to = named(out, at, word, wide(refusal.number));
     carried(out, to, refusal, code, end, length)
+}
+
+// What a look saw, by a template; or its refusal.
+fn looked(
+    out: &mut [u8],
+    at: usize,
+    peeked: Peeked,
+    template: &[u8],
+    word: &[u8],
+    code: &[u8],
+) -> usize
+    ensures { λ r. ⌜ text (now (out .exit)) r ≡ puts (text (now (out .entry)) at)
+        (lookText (now (template .entry)) (now (word .entry)) (now (code .entry)) peeked) ⌝ }
+{
+    match peeked {
+        Peeked::Seen(look) => {
+            let numbers = vp8_flat::header::look(look);
+            text::fill(out, at, template, &numbers)
+        }
+        Peeked::TooShort => refused(out, at, Outcome::ChunkTooShort, word, code, b"", b""),
+        Peeked::StartCode(n) => {
+            refused(out, at, Outcome::InvalidStartCode(n), word, code, b"", b"")
+        }
+    }
 }

@@ -1,16 +1,18 @@
 // The lines of the printing program: what an accepted frame is, and where each of its partitions stands; or the refusal.
+use crate::looked;
 use crate::named;
 use crate::refused;
 use crate::wide;
 use crate::wide8;
 use vp8_records::Header;
 use vp8_records::Parsed;
+use vp8_records::Peeked;
 ghost use mathlib.Core.Path.{_≡_};
 ghost use Prim.Native.Nat.{_-_, _*_, _≤_};
 ghost use lib.ListN.{take};
 ghost use Rattle.text.specs.Text.{text, puts};
 ghost use Rattle.vp8_flat.specs.Numbers.{partitionCount};
-ghost use Rattle.vp8_show.specs.Printed.{frameLine, partitionLine, partitionLines, firstStart, acceptedText, printed};
+ghost use Rattle.vp8_show.specs.Printed.{frameLine, partitionLine, partitionLines, firstStart, acceptedText, printed, printedLook};
 
 // The first line: what the frame is.
 fn frame_line(out: &mut [u8], at: usize, h: Header) -> usize
@@ -100,6 +102,21 @@ pub fn answer(out: &mut [u8], at: usize, parsed: Parsed) -> usize
         b" code ",
         b" end ",
         b" length ",
+    );
+    text::byte(out, to, b'\n')
+}
+
+// The line of a look; under 256 bytes.
+pub fn look(out: &mut [u8], at: usize, peeked: Peeked) -> usize
+    ensures { λ r. ⌜ text (now (out .exit)) r ≡ puts (text (now (out .entry)) at) (printedLook peeked) ⌝ }
+{
+    let to = looked(
+        out,
+        at,
+        peeked,
+        b"key | version | show | first | size |x| scale |x|",
+        b"refused ",
+        b" code ",
     );
     text::byte(out, to, b'\n')
 }

@@ -60,6 +60,23 @@ fn probs(h: &Header) -> Vec<u8> {
     out
 }
 
+/// The number of a chunk's refusal, and the code that it carries.
+fn chunk_refusal(why: ParseUncompressedChunkError) -> (u8, u32) {
+    match why {
+        ParseUncompressedChunkError::IoError(_) => (1, 0),
+        ParseUncompressedChunkError::InvalidStartCode(code) => (2, code),
+    }
+}
+
+/// What the chunk alone tells.
+// Of the copy that counts bools, and in the slips, nobody asks.
+#[allow(dead_code)]
+pub fn look(bytes: &[u8]) -> crate::answer::Look {
+    let h = Header::parse_uncompressed_data_chunk(bytes).map_err(chunk_refusal)?;
+    let all = numbers(&h);
+    Ok(crate::answer::SEEN.map(|name| all[crate::answer::at(name)]))
+}
+
 pub fn call(p: &mut Parser, bytes: &[u8]) -> Answer {
     let refused = |refusal: u8, a: usize, b: usize| Answer {
         refusal,
@@ -74,10 +91,10 @@ pub fn call(p: &mut Parser, bytes: &[u8]) -> Answer {
             view: frame.as_ref().len(),
             ..Answer::default()
         },
-        Err(ParseFrameError::ParseUncompressedChunk(why)) => match why {
-            ParseUncompressedChunkError::IoError(_) => refused(1, 0, 0),
-            ParseUncompressedChunkError::InvalidStartCode(code) => refused(2, code as usize, 0),
-        },
+        Err(ParseFrameError::ParseUncompressedChunk(why)) => {
+            let (refusal, code) = chunk_refusal(why);
+            refused(refusal, code as usize, 0)
+        }
         Err(ParseFrameError::InvalidPartitionSize(end, length)) => refused(3, end, length),
         Err(ParseFrameError::ParseFrameHeader(BoolDecoderError::EndOfInput)) => refused(4, 0, 0),
         Err(ParseFrameError::ComputePartitionSizes(ComputePartitionSizesError::EndOfHeader)) => refused(5, 0, 0),

@@ -49,3 +49,9 @@ impl Answer {
         self.numbers[at(name)]
     }
 }
+
+/// What a look at the first bytes tells, by the names of the dump line.
+pub const SEEN: [&str; 8] = ["key", "ver", "show", "first", "w", "h", "hs", "vs"];
+
+/// Those numbers; or the refusal, with its code or 0.
+pub type Look = Result<[i64; 8], (u8, u32)>;

@@ -26,6 +26,7 @@ mod engine;
 mod gen;
 mod ivf;
 mod list;
+mod look;
 mod replay;
 mod rng;
 mod rules;
@@ -46,6 +47,7 @@ const USAGE: &str = "usage: tests/oracle/run COMMAND
   check                      holds the Rust against the rules on frame records on standard input
   gen frames --seed S --count N [--streams DIR]   writes frame records
   gen bools --seed S --count N                    writes scripts
+  looks [--prefixes]         frame records again, with a look at each frame before it; and at its first 0 to 12 bytes
   records [FILE..]           writes the frames of recordings as frame records (all recordings where none is named)
   list                       writes the fixed list of frames (needs the recordings)
   scripts                    writes the fixed list of scripts
@@ -101,12 +103,16 @@ fn line(a: &Answer) -> String {
     format!("{out} st={kept}")
 }
 
-/// A frame record: a fresh parser, a frame, or why there are no more.
+/// A frame record: a fresh parser, a frame, one that is only looked at, or why there are no more.
 enum Record {
     Fresh,
     Frame(Vec<u8>),
+    Look(Vec<u8>),
     End(Option<&'static str>),
 }
+
+/// Stands before a frame that is only looked at.
+const LOOK: u32 = 0xffff_fffc;
 
 /// That many bytes; none if there are fewer.
 fn take(input: &mut impl Read, n: usize) -> Option<Vec<u8>> {
@@ -126,22 +132,44 @@ fn length(input: &mut impl BufRead) -> Result<usize, Option<&'static str>> {
     take(input, 4).map(|b| number(&b)).ok_or(Some("cut short"))
 }
 
-fn record(input: &mut impl BufRead) -> Record {
-    match length(input) {
-        Err(end) => Record::End(end),
-        Ok(0xffff_ffff) => Record::Fresh,
-        Ok(n) if n > gen::LONGEST => Record::End(Some("too large")),
-        Ok(n) => take(input, n).map_or(Record::End(Some("cut short")), Record::Frame),
+/// Frame records from standard input.
+struct Records {
+    input: std::io::StdinLock<'static>,
+    /// Whether the next frame is only looked at.
+    looks: bool,
+}
+
+impl Records {
+    fn new() -> Records {
+        Records { input: std::io::stdin().lock(), looks: false }
+    }
+
+    fn next(&mut self) -> Record {
+        let cut = Record::End(Some("cut short"));
+        loop {
+            match length(&mut self.input) {
+                Err(None) if self.looks => return cut,
+                Err(end) => return Record::End(end),
+                Ok(0xffff_ffff) => return Record::Fresh,
+                Ok(n) if n == LOOK as usize => self.looks = true,
+                Ok(n) if n > gen::LONGEST => return Record::End(Some("too large")),
+                Ok(n) => {
+                    let wrap = if std::mem::take(&mut self.looks) { Record::Look } else { Record::Frame };
+                    return take(&mut self.input, n).map_or(cut, wrap);
+                }
+            }
+        }
     }
 }
 
 fn dump() {
-    let mut input = std::io::stdin().lock();
+    let mut input = Records::new();
     let mut engine = Engine::new();
     loop {
-        match record(&mut input) {
+        match input.next() {
             Record::Fresh => engine = Engine::new(),
             Record::Frame(f) => emit(format!("{}\n", line(&engine.call(&f))).as_bytes()),
+            Record::Look(f) => emit(format!("{}\n", look::line(&f)).as_bytes()),
             Record::End(None) => return,
             Record::End(Some(why)) => return emit(format!("{why}\n").as_bytes()),
         }
@@ -149,15 +177,16 @@ fn dump() {
 }
 
 fn check() {
-    let mut input = std::io::stdin().lock();
+    let mut input = Records::new();
     let (mut engine, mut rules, mut frames) = (Engine::new(), rules::Rules::new(), 0);
     loop {
-        match record(&mut input) {
+        match input.next() {
             Record::Fresh => (engine, rules) = (Engine::new(), rules::Rules::new()),
             Record::Frame(f) => {
                 frames += 1;
                 list::agree(&engine.call(&f), &rules.call(&f), &f);
             }
+            Record::Look(f) => drop(look::look(&f)),
             Record::End(None) => break,
             Record::End(Some(why)) => stop(1, why),
         }
@@ -166,11 +195,12 @@ fn check() {
 }
 
 fn reached() {
-    let mut input = std::io::stdin().lock();
+    let mut input = Records::new();
     let (mut sequences, mut frames) = (Vec::new(), Vec::new());
     loop {
-        match record(&mut input) {
+        match input.next() {
             Record::Frame(f) => frames.push((0, f)),
+            Record::Look(_) => {}
             Record::Fresh => sequences.push(std::mem::take(&mut frames)),
             Record::End(None) => break,
             Record::End(Some(why)) => stop(1, why),
@@ -181,6 +211,34 @@ fn reached() {
     let (_, stats) = list::frames(&sequences);
     stats.print();
     println!("lacking: {:?}", stats.missing());
+}
+
+fn frame_record(out: &mut Vec<u8>, f: &[u8]) {
+    out.extend((f.len() as u32).to_le_bytes());
+    out.extend(f);
+}
+
+/// The same records, with a look at each frame before it is parsed, and with `prefixes` one at its first 0 to 12 bytes each.
+fn looks(prefixes: bool) {
+    let mut input = Records::new();
+    loop {
+        let mut out = Vec::new();
+        match input.next() {
+            Record::Fresh => out.extend([0xff; 4]),
+            Record::Look(_) => {}
+            Record::Frame(f) => {
+                let short = (0..=f.len().min(12)).filter(|_| prefixes).map(|n| &f[..n]);
+                for part in short.chain([&f[..]]) {
+                    out.extend(LOOK.to_le_bytes());
+                    frame_record(&mut out, part);
+                }
+                frame_record(&mut out, &f);
+            }
+            Record::End(None) => return,
+            Record::End(Some(why)) => stop(1, why),
+        }
+        emit(&out);
+    }
 }
 
 /// One script, or how the input ends.
@@ -236,8 +294,7 @@ fn gen_frames(arguments: &[String]) {
         left -= frames.len();
         let mut out = vec![0xff; 4];
         for f in frames {
-            out.extend((f.len() as u32).to_le_bytes());
-            out.extend(f);
+            frame_record(&mut out, &f);
         }
         emit(&out);
     }
@@ -272,8 +329,7 @@ fn records(files: &[String]) {
                 skipped += 1;
                 continue;
             }
-            out.extend((f.len() as u32).to_le_bytes());
-            out.extend(f);
+            frame_record(&mut out, &f);
         }
         emit(&out);
     }
@@ -306,6 +362,8 @@ fn main() {
         ["check"] => check(),
         ["gen", "frames", ..] => gen_frames(&arguments[2..]),
         ["gen", "bools", ..] => gen_bools(&arguments[2..]),
+        ["looks"] => looks(false),
+        ["looks", "--prefixes"] => looks(true),
         ["records", ..] => records(&arguments[1..]),
         ["list"] => {
             let (bytes, stats) = list::frames(&fixed_list().sequences);

@@ -1,6 +1,6 @@
 //! The rules of docs/RULES.md written out a second time, from their words, to be held against the Rust.
 
-use crate::answer::{blocks, Answer, COEFFS, KEPT, MOTION, NUMBERS, PROBS};
+use crate::answer::{blocks, Answer, Look, COEFFS, KEPT, MOTION, NUMBERS, PROBS, SEEN};
 use crate::bare::Read;
 use crate::codec::vp8::probs;
 
@@ -104,6 +104,32 @@ fn little(bytes: &[u8]) -> u32 {
     bytes.iter().rev().fold(0, |v, b| v * 256 + *b as u32)
 }
 
+/// A look at the first ten bytes, or at all where there are fewer: key, version, show, first partition, width, height and both scale codes;
+/// or refusal 1 or 2, with its code.
+pub fn look(f: &[u8]) -> Look {
+    let f = &f[..f.len().min(10)];
+    if f.len() < 3 {
+        return Err((1, 0));
+    }
+    let tag = little(&f[..3]);
+    let key = tag & 1 == 0;
+    let (mut w, mut h) = (0, 0);
+    if key {
+        if f.len() < 6 {
+            return Err((1, 0));
+        }
+        if f[3..6] != [0x9d, 0x01, 0x2a] {
+            return Err((2, little(&f[3..6])));
+        }
+        if f.len() < 10 {
+            return Err((1, 0));
+        }
+        (w, h) = (little(&f[6..8]) as i64, little(&f[8..10]) as i64);
+    }
+    let [version, show, first] = [tag >> 1 & 7, tag >> 4 & 1, tag >> 5].map(i64::from);
+    Ok([key as i64, version, show, first, w % 16384, h % 16384, w / 16384, h / 16384])
+}
+
 impl Rules {
     pub fn new() -> Rules {
         let mut kept = vec![0; 25];
@@ -123,22 +149,13 @@ impl Rules {
 
     fn read(&mut self, f: &[u8]) -> Answer {
         let refused = |refusal, a, b| Answer { refusal, a, b, ..Answer::default() };
-        if f.len() < 3 {
-            return refused(1, 0, 0);
-        }
-        let tag = little(&f[..3]);
-        let key = tag & 1 == 0;
-        let first = (tag >> 5) as usize;
+        let seen = match look(f) {
+            Ok(seen) => seen,
+            Err((refusal, code)) => return refused(refusal, code, 0),
+        };
+        let key = seen[0] == 1;
+        let first = seen[3] as usize;
         if key {
-            if f.len() < 6 {
-                return refused(1, 0, 0);
-            }
-            if f[3..6] != [0x9d, 0x01, 0x2a] {
-                return refused(2, little(&f[3..6]), 0);
-            }
-            if f.len() < 10 {
-                return refused(1, 0, 0);
-            }
             self.kept = Rules::new().kept;
         }
         let chunk = if key { 10 } else { 3 };
@@ -152,14 +169,8 @@ impl Rules {
             return refused(4, 0, 0);
         }
 
-        let mut named: Vec<(&str, i64)> = Vec::new();
-        named.extend([("key", key as i64), ("ver", (tag >> 1 & 7) as i64), ("show", (tag >> 4 & 1) as i64)]);
-        named.extend([("chunk", chunk as i64), ("first", first as i64)]);
-        if key {
-            let (w, h) = (little(&f[6..8]) as i64, little(&f[8..10]) as i64);
-            named.extend([("w", w % 16384), ("h", h % 16384), ("hs", w / 16384), ("vs", h / 16384)]);
-            named.extend([("cols", blocks(w % 16384)), ("rows", blocks(h % 16384))]);
-        }
+        let mut named: Vec<(&str, i64)> = SEEN.into_iter().zip(seen).collect();
+        named.extend([("chunk", chunk as i64), ("cols", blocks(seen[4])), ("rows", blocks(seen[5]))]);
         let mut d = Dec::new(area);
         let k = &mut self.kept;
         if key {

@@ -6,11 +6,17 @@ use Rattle.vp8_header.specs.Stages.{firstOf, secondOf, interOf, thirdOf}
 use Rattle.vp8_header.proofs.header_of.Statement.{statement}
 use Rattle.vp8_header.proofs.header_of.Tie as tie
 
-cast-horiz-scale-code : tie.Need-cast-horiz-scale-code
-cast-horiz-scale-code c = search needs
+pixels-requires : tie.Need-pixels-requires
+pixels-requires c κs = search needs
 
-cast-vert-scale-code : tie.Need-cast-vert-scale-code
-cast-vert-scale-code c = search needs
+pixels-requires-2 : tie.Need-pixels-requires-2
+pixels-requires-2 c κs = search needs
+
+scale-requires : tie.Need-scale-requires
+scale-requires c κs = search needs
+
+scale-requires-2 : tie.Need-scale-requires-2
+scale-requires-2 c κs = search needs
 
 mode-probs-init-defaults-requires : tie.Need-mode-probs-init-defaults-requires
 mode-probs-init-defaults-requires c κs = search needs
@@ -36,16 +42,23 @@ returns c p a b t ex ey ez =
     let at-bools = c .before .before in
     let at-snapshot = at-bools .before in
     let s = at-snapshot .snapshot .ensures in
-    let modes = at-snapshot .before .before .mode-probs-init-defaults .ensures in
-    rw (modes, at-snapshot .before .pos .ensures, s .range, s .value, s .count)
-    (rw (at-bools .bools .ensures, c .before .blocks2 .ensures, c .blocks3 .ensures) (rw (ex, ey, ez)))
+    let at-modes = at-snapshot .before .before in
+    let at-down = at-modes .before .before .before .before .before .before .before in
+    let at-across = at-down .before in
+    let at-height = at-across .before in
+    rw (at-modes .mode-probs-init-defaults .ensures, at-snapshot .before .pos .ensures, s .range, s .value, s .count)
+    (rw (at-bools .bools .ensures, c .before .blocks2 .ensures, c .blocks3 .ensures)
+    (rw (at-height .before .pixels .ensures, at-height .pixels2 .ensures, at-across .scale .ensures, at-down .scale2 .ensures)
+    (rw (ex, ey, ez))))
 
 pub header-of-spec : {M : Type 1} → statement M
 header-of-spec =
     tie.close
     (tie.spec
-    cast-horiz-scale-code
-    cast-vert-scale-code
+    pixels-requires
+    pixels-requires-2
+    scale-requires
+    scale-requires-2
     mode-probs-init-defaults-requires
     pos-requires
     snapshot-requires

@@ -4,7 +4,7 @@ use denote.Ref.{now}
 use borrow.Author.Needs.{needs}
 use Rattle.rfc6386.specs.Frame.{Opened, inside, decode}
 use Rattle.rfc6386.specs.Call.{finish, call}
-use Rattle.vp8_parser.proofs.Opens.{opened-fits}
+use Rattle.rfc6386.proofs.Peek.{opened-fits}
 use Rattle.vp8_parser.proofs.parse.Statement.{statement}
 use Rattle.vp8_parser.proofs.parse.Tie as tie
 
