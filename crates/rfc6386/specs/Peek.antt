@@ -2,7 +2,7 @@
 -- tag and the start code are read by the definition of a call's chunk; of a shorter frame all bytes are looked at.
 use Prim.Native.Nat.{ℕ, _<_}
 use mathlib.Core.Bool.{Bool, false}
-use mathlib.Core.List.{List}
+use mathlib.Core.List.{List, []}
 use lib.ListN.{take}
 use Rattle.vp8_records.specs.declared.Header.{Header}
 use Rattle.vp8_records.specs.declared.Look.{Look}
@@ -10,7 +10,7 @@ use Rattle.vp8_records.specs.declared.Outcome.{Outcome}
 use Rattle.vp8_records.specs.declared.Outcome.the-variants.{ChunkTooShort, InvalidStartCode}
 use Rattle.vp8_records.specs.declared.Peeked.{Peeked}
 use Rattle.vp8_records.specs.declared.Peeked.the-variants.{Seen, TooShort, StartCode}
-use Rattle.vp8_records.specs.Outcome.{numberOf}
+use Rattle.vp8_records.specs.Outcome.{Told, told, numberOf}
 use Rattle.rfc6386.specs.Frame.{Chunk, pixels, scale, Opened, shut, opened, chunk}
 
 -- what a chunk tells
@@ -38,7 +38,12 @@ looked (opened k) = seen (look k)
 unfoldable pub peek : List ℕ → Peek
 peek f = looked (chunk (take 10 f))
 
--- what each case of the code's answer stands for: a refusal is the call's outcome, with its number and values (vp8_records' `told`)
+-- the number of a refusal and its values, by the one table of outcomes; 0 and none where the bytes told
+abbrev pub toldBy : Peek → Told
+toldBy (barred o) = told o
+toldBy (seen l) = record { number = 0; carried = [] }
+
+-- what each case of the code's answer stands for
 abbrev pub peekOf : Peeked → Peek
 peekOf (Seen l) = seen l
 peekOf TooShort = barred ChunkTooShort
