@@ -7,39 +7,47 @@ use mathlib.Core.Option.{Option, none, some}
 use mathlib.Core.List.{List, [], _∷_}
 use lib.Dec.{leb, ltb, eqb, lit<}
 use lib.ListN.{length, drop}
-use borrow.Author.Tests.{ltb-false}
+use borrow.Author.Tests.{leb-true, ltb-false}
 use Rattle.vp8_records.specs.declared.Parser.{Parser}
 use Rattle.vp8_records.specs.declared.Outcome.the-variants.{Accepted, ChunkTooShort, InvalidStartCode, FrameTooLong}
 use Rattle.vp8_records.specs.Outcome.{numberOf}
 use Rattle.rfc6386.specs.Bytes.{le3}
 use Rattle.rfc6386.specs.Decoder.{bits}
 use Rattle.rfc6386.specs.Coded.{Coded}
-use Rattle.rfc6386.specs.Frame.{Chunk, Opened, shut, opened, keyChunk, chunk, Snapshot, snapshot, sizes, held, decoded}
+use Rattle.rfc6386.specs.Frame.{Chunk, tagged, keyed, Opened, shut, opened, keyChunk, chunk, Snapshot, snapshot, sizes, held, decoded}
 use Rattle.rfc6386.specs.Frame.{Body, beyond, empty, read, headed, body, follows, inside, decode}
 use Rattle.rfc6386.specs.Call.{probsOf, probsOver, shown, apply, headerOf, base, answer, finish, call}
 
 -- what holds of both answers of a test holds of the one it picks
-pub choose : {A : Type 0} (P : A → Type 0) (b : Bool) (x y : A) → P x → P y → P (elim b [ true ↦ x | false ↦ y ])
+choose : {A : Type 0} (P : A → Type 0) (b : Bool) (x y : A) → P x → P y → P (elim b [ true ↦ x | false ↦ y ])
 choose P true x y h g = h
 choose P false x y h g = g
+
+-- the same, where the first answer may use that the test is true
+decide : {A : Type 0} (P : A → Type 0) (b : Bool) (x y : A) → (b ≡ true → P x) → P y → P (elim b [ true ↦ x | false ↦ y ])
+decide P true x y h g = h refl
+decide P false x y h g = g
+
+-- what holds of each answer that a chunk can have holds of the chunk: 6, 1, 2, a key frame's, another's
+module _ (P : Opened → Type 0) (f : List ℕ) (short : P (shut ChunkTooShort)) (code : P (shut (InvalidStartCode (le3 f 3))))
+    (key : P (opened (keyed f))) (inter : P (opened (tagged (le3 f 0) false 3 0 0))) where
+  key-each : P (keyChunk f)
+  unfolding keyChunk
+  key-each = choose P (ltb (length f) 6) _ _ short (choose P (eqb (le3 f 3) 0x2a019d) _ _ (choose P (ltb (length f) 10) _ _ short key) code)
+
+  pub chunk-each : (2 ^ 28 ≤ length f → P (shut (FrameTooLong (length f)))) → P (chunk f)
+  unfolding chunk
+  chunk-each long =
+      decide P (leb (2 ^ 28) (length f)) _ _ (λ e. long (leb-true _ _ e))
+      (choose P (ltb (length f) 3) _ _ short (choose P (eqb (le3 f 0 % 2) 0) _ _ key-each inter))
 
 abbrev Shuts : Opened → Type 0
 Shuts (shut o) = 0 < numberOf o
 Shuts (opened k) = Unit {0}
 
-key-shuts : (f : List ℕ) → Shuts (keyChunk f)
-unfolding keyChunk
-key-shuts f =
-    choose Shuts (ltb (length f) 6) (shut ChunkTooShort) _ (lit< tt)
-    (choose Shuts (eqb (le3 f 3) 0x2a019d) _ (shut (InvalidStartCode (le3 f 3)))
-    (choose Shuts (ltb (length f) 10) (shut ChunkTooShort) _ (lit< tt) tt) (lit< tt))
-
 -- a chunk that is shut has a refusal's number
 pub shuts : (f : List ℕ) → Shuts (chunk f)
-unfolding chunk
-shuts f =
-    choose Shuts (leb (2 ^ 28) (length f)) (shut (FrameTooLong (length f))) _ (lit< tt)
-    (choose Shuts (ltb (length f) 3) (shut ChunkTooShort) _ (lit< tt) (choose Shuts (eqb (le3 f 0 % 2) 0) (keyChunk f) _ (key-shuts f) tt))
+shuts f = chunk-each Shuts f (lit< tt) (lit< tt) tt tt (λ h. lit< tt)
 
 -- the bytes that the decoder runs over
 abbrev pub heldBy : Chunk → List ℕ → List ℕ

@@ -5,16 +5,13 @@ use mathlib.Core.Path.{_≡_, refl, ap}
 use mathlib.Core.Bool.{false}
 use mathlib.Core.Option.{none, some}
 use mathlib.Core.List.{List}
-use lib.Dec.{leb, ltb, eqb}
-use lib.ListN.{length}
 use Rattle.vp8_records.specs.declared.Parser.{Parser}
 use Rattle.vp8_records.specs.Start.{blank}
-use Rattle.rfc6386.specs.Bytes.{le3}
-use Rattle.rfc6386.specs.Frame.{Chunk, Opened, shut, opened, keyChunk, chunk}
+use Rattle.rfc6386.specs.Frame.{Chunk, Opened, shut, opened, chunk}
 use Rattle.rfc6386.specs.Frame.{Body, beyond, empty, read, body, Said, refused, follows, inside, decode}
 use Rattle.rfc6386.specs.Call.{blocks, headerOf, finish, call}
 use Rattle.rfc6386.specs.Covers.{Spans, Covers, NoBlocks}
-use Rattle.rfc6386.proofs.Accepts.{choose}
+use Rattle.rfc6386.proofs.Accepts.{chunk-each}
 
 pub blocks-span : (n : ℕ) → Spans (blocks n) n
 blocks-span n = record { reach = omega arith; needed = omega arith }
@@ -50,18 +47,9 @@ abbrev Unsized : Opened → Type 0
 Unsized (shut o) = Unit {0}
 Unsized (opened k) = k .key ≡ false → (k .width ≡ 0) × (k .height ≡ 0)
 
-key-unsized : (f : List ℕ) → Unsized (keyChunk f)
-unfolding keyChunk
-key-unsized f =
-    choose Unsized (ltb (length f) 6) _ _ tt
-    (choose Unsized (eqb (le3 f 3) 0x2a019d) _ _
-    (choose Unsized (ltb (length f) 10) _ _ tt (λ e. absurd (let z : _≡_ {A = ℕ} 0 1 = cc in omega arith))) tt)
-
 unsized : (f : List ℕ) → Unsized (chunk f)
-unfolding chunk
 unsized f =
-    choose Unsized (leb (2 ^ 28) (length f)) _ _ tt
-    (choose Unsized (ltb (length f) 3) _ _ tt (choose Unsized (eqb (le3 f 0 % 2) 0) _ _ (key-unsized f) (λ e. (refl, refl))))
+    chunk-each Unsized f tt tt (λ e. absurd (let z : _≡_ {A = ℕ} 0 1 = cc in omega arith)) (λ e. (refl, refl)) (λ h. tt)
 
 blank-none : NoBlocks blank
 unfolding blank

@@ -1,21 +1,20 @@
 -- A look sees what a call sees. The chunk's tests ask for at most ten bytes, so below 2^28 bytes the chunk of the first ten is the chunk of
 -- all; the rest is by cases on that chunk.
-use Prim.Native.Nat.{ℕ, zero, suc, _+_, _*_, _%_, _^_, _≤_, _<_}
+use Prim.Native.Nat.{ℕ, _+_, _*_, _%_, _^_, _≤_, _<_}
 use native.Mathlib.Nat.{min-le-left}
 use native.Mathlib.Omega.{arith}
 use native.Mathlib.Decide.{decLe}
 use mathlib.Core.Path.{_≡_, refl, sym, ap, ap₂, _∙_}
-use mathlib.Core.Bool.{Bool, true, false}
+use mathlib.Core.Bool.{true, false}
 use mathlib.Core.List.{List}
 use mathlib.Core.Option.{none, some}
-use lib.Dec.{leb, ltb, eqb, lit<}
+use lib.Dec.{eqb, lit<}
 use lib.ListN.{length, take, length-take}
 use lib.Seq.{take-all, take-take, length-take-le, getD-take}
 use borrow.Author.Tests.{lt-leb, le-leb, le-ltb}
-use Rattle.vp8_records.specs.declared.Header.{Header}
 use Rattle.vp8_records.specs.declared.Look.{Look}
 use Rattle.vp8_records.specs.declared.Outcome.{Outcome}
-use Rattle.vp8_records.specs.declared.Outcome.the-variants.{Accepted, ChunkTooShort, InvalidStartCode, FrameTooLong}
+use Rattle.vp8_records.specs.declared.Outcome.the-variants.{Accepted, InvalidStartCode, FrameTooLong}
 use Rattle.vp8_records.specs.declared.Parsed.{Parsed}
 use Rattle.vp8_records.specs.declared.Parser.{Parser}
 use Rattle.vp8_records.specs.Outcome.{numberOf}
@@ -24,9 +23,9 @@ use Rattle.rfc6386.specs.Bytes.{le2, le3}
 use Rattle.rfc6386.specs.Frame.{Chunk, Opened, shut, opened, tagged, keyChunk, chunk, Body, beyond, empty, read, body, follows, inside, decode}
 use Rattle.rfc6386.specs.Call.{headerOf, answer, finish, call}
 use Rattle.rfc6386.specs.Peek.{Peek, barred, seen, looked, peek, Early, lookIn}
-use Rattle.rfc6386.proofs.Accepts.{choose, accepted}
+use Rattle.rfc6386.proofs.Accepts.{chunk-each, accepted}
 
--- a look sees ten bytes, and frames that begin alike look alike
+-- a look sees ten bytes
 pub sees-ten : (f : List ℕ) → peek (take 10 f) ≡ peek f
 unfolding peek
 sees-ten f = ap (λ (l : List ℕ). looked (chunk l)) (take-take 10 10 f (omega arith))
@@ -76,7 +75,7 @@ unfolding peek
 peek-chunk f h = ap looked (ten-chunk f h)
 
 -- of 2^28 bytes and more a call sees the length alone
-over-long : (f : List ℕ) → 2 ^ 28 ≤ length f → chunk f ≡ shut (FrameTooLong (length f))
+pub over-long : (f : List ℕ) → 2 ^ 28 ≤ length f → chunk f ≡ shut (FrameTooLong (length f))
 unfolding chunk
 over-long f h = rw (le-leb (2 ^ 28) (length f) h, chunk)
 
@@ -93,23 +92,8 @@ abbrev Bars : Opened → Type 0
 Bars (shut o) = Early o
 Bars (opened k) = Unit {0}
 
-early-1 : Bars (shut ChunkTooShort)
-early-1 = (lit< tt, lit< tt)
-
-early-2 : (code : ℕ) → Bars (shut (InvalidStartCode code))
-early-2 code = (lit< tt, lit< tt)
-
-key-bars : (f : List ℕ) → Bars (keyChunk f)
-unfolding keyChunk
-key-bars f =
-    choose Bars (ltb (length f) 6) _ _ early-1
-    (choose Bars (eqb (le3 f 3) 0x2a019d) _ _ (choose Bars (ltb (length f) 10) _ _ early-1 tt) (early-2 (le3 f 3)))
-
 chunk-bars : (f : List ℕ) → length f < 2 ^ 28 → Bars (chunk f)
-unfolding chunk
-chunk-bars f h =
-    rw (lt-leb (2 ^ 28) (length f) h, chunk)
-    (choose Bars (ltb (length f) 3) _ _ early-1 (choose Bars (eqb (le3 f 0 % 2) 0) _ _ (key-bars f) tt))
+chunk-bars f h = chunk-each Bars f (lit< tt, lit< tt) (lit< tt, lit< tt) tt tt (λ g. absurd (omega (arith, g, h)))
 
 -- a look refuses by 1 and 2 alone, however long the frame
 pub barred-early : (f : List ℕ) (o : Outcome) → peek f ≡ barred o → Early o

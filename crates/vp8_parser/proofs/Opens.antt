@@ -5,8 +5,8 @@ use mathlib.Core.Path.{_≡_, refl, sym, ap, subst, _∙_}
 use mathlib.Core.Bool.{Bool, true, false}
 use mathlib.Core.List.{List, [], _∷_}
 use lib.ListN.{length, drop}
-use borrow.Author.Tests.{lt-ltb, le-ltb, le-leb, lt-leb, eq-eqb, ne-eqb}
-use Rattle.vp8_records.specs.declared.Outcome.the-variants.{ChunkTooShort, InvalidStartCode, FrameTooLong}
+use borrow.Author.Tests.{lt-ltb, le-ltb, lt-leb, eq-eqb, ne-eqb}
+use Rattle.vp8_records.specs.declared.Outcome.the-variants.{ChunkTooShort, InvalidStartCode}
 use Rattle.rfc6386.specs.Bytes.{le2, le3}
 use Rattle.rfc6386.specs.Frame.{Chunk, tagged, Opened, shut, opened, keyChunk, chunk, Body, beyond, empty, decoded, headed, body}
 use Rattle.rfc6386.proofs.Accepts.{heldBy}
@@ -41,10 +41,6 @@ module _ (f : List ℕ) where
       let six : 6 ≤ length f = omega arith in
       rw (a, b, d)
       (sym (no-test _ _ (le-ltb _ _ six) ∙ yes-test _ _ (eq-eqb (le3 f 3) 0x2a019d (sym e ∙ n)) ∙ no-test _ _ (le-ltb _ _ g)))
-
-  pub chunk-long : 2 ^ 28 ≤ length f → shut (FrameTooLong (length f)) ≡ chunk f
-  unfolding chunk
-  chunk-long h = sym (yes-test _ _ (le-leb _ _ h))
 
   pub chunk-short : length f < 2 ^ 28 → length f < 3 → shut ChunkTooShort ≡ chunk f
   unfolding chunk

@@ -1,15 +1,16 @@
--- Each test answers the definition's, so each answer is one law of Opens.
+-- Each test answers the definition's, so each answer is one law of Opens, or of the definition where the frame is too long.
 use Prim.Native.Nat.{ℕ}
-use mathlib.Core.Path.{ap, _∙_}
+use mathlib.Core.Path.{sym, ap, _∙_}
 use mathlib.Core.Bool.{false}
 use borrow.Author.Needs.{needs}
 use Rattle.rfc6386.specs.Frame.{opened, tagged}
-use Rattle.vp8_parser.proofs.Opens.{chunk-long, chunk-short, chunk-key, chunk-inter}
+use Rattle.rfc6386.proofs.Peek.{over-long}
+use Rattle.vp8_parser.proofs.Opens.{chunk-short, chunk-key, chunk-inter}
 use Rattle.vp8_parser.proofs.parse_uncompressed_data_chunk.Statement.{statement}
 use Rattle.vp8_parser.proofs.parse_uncompressed_data_chunk.Tie as tie
 
 returns : tie.Need-returns
-returns c = chunk-long _ (c .if1 .taken)
+returns c = sym (over-long _ (c .if1 .taken))
 
 returns-2 : tie.Need-returns-2
 returns-2 c = chunk-short _ (c .before .if1 .left) (c .if2 .taken)
