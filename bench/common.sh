@@ -1,5 +1,5 @@
 # What both benchmarks share; sourced by bench/decoder/run and bench/parse/run, which set `name` (theirs), `crate` and `given` (a file of
-# the Rust's that they need). It checks what is at hand, builds the port's library and the host, and counts and times.
+# the Rust's that they need). It checks what is at hand, builds the port's library and the host, counts, times, and looks into the archive.
 #   SILLBROOK_RUST_SRC   the folder that holds the Rust's src/ (else ../shared/docs/src beside the repository)
 #   SILLBROOK_STREAMS    the folder of recordings (else ../shared/streams beside the repository)
 #   SILLBROOK_COUNTER    callgrind or emulator; where not set, callgrind on x86-64 with valgrind, else the emulator
@@ -15,7 +15,7 @@ stop() {
     exit 2
 }
 
-for tool in rt cargo; do
+for tool in rt cargo size; do
     command -v "$tool" > /dev/null || stop "no $tool on the path"
 done
 source=${SILLBROOK_RUST_SRC:-$top/../shared/docs/src}
@@ -116,4 +116,17 @@ ratio() { # WHAT OF UNIT OURS RUST
         return
     fi
     run time | awk '{ printf "time on this machine: %.0f ns a frame, the Rust %.0f, ratio %.3f (of each frame the best of %d rounds, turn about)\n", $1, $2, $1 / $2, $3 }'
+}
+
+# What the port's archive holds: code, constant data, and the code that stands for constant data since it builds a table where it runs.
+archive() {
+    local file=$SILLBROOK_STATICLIB/lib$crate.a tables
+    size -A "$file" | awk '
+        /^\.text/ { code += $2 } /^\.rodata/ { data += $2 }
+        END { printf "the archive: %d bytes of code, %d of constant data\n", code, data }'
+    if command -v python3 > /dev/null && tables=$(objdump -d --no-show-raw-insn "$file" 2> /dev/null | "$bench/tables"); then
+        echo "code that builds constant tables: $tables bytes"
+    else
+        echo "code that builds constant tables: not counted, since that needs python3 and an objdump that knows x86-64"
+    fi
 }

@@ -13,4 +13,3 @@ pub mod Literal
 pub mod Limits
 pub mod Same
 pub mod Sequence
-mod Table
