@@ -8,6 +8,7 @@ use mathlib.Core.List.{List, [], _∷_}
 use lib.Dec.{leb, ltb, eqb, lit<}
 use lib.ListN.{length, drop}
 use borrow.Author.Tests.{leb-true, ltb-false}
+use Rattle.vp8_records.specs.declared.Mode.{Mode}
 use Rattle.vp8_records.specs.declared.Parser.{Parser}
 use Rattle.vp8_records.specs.declared.Outcome.the-variants.{Accepted, ChunkTooShort, InvalidStartCode, FrameTooLong}
 use Rattle.vp8_records.specs.Outcome.{numberOf}
@@ -50,32 +51,32 @@ pub shuts : (f : List ℕ) → Shuts (chunk f)
 shuts f = chunk-each Shuts f (lit< tt) (lit< tt) tt tt (λ h. lit< tt)
 
 -- the bytes that the decoder runs over
-abbrev pub heldBy : Chunk → List ℕ → List ℕ
-heldBy k f = held (k .first) (drop (k .size) f)
+abbrev pub heldBy : Mode → Chunk → List ℕ → List ℕ
+heldBy md k f = held md (k .first) (drop (k .size) f)
 
 -- a header that was read to its end
-pub record Reading (k : Chunk) (f : List ℕ) (c : Coded) (s : Snapshot) (ss : Option (List ℕ)) : Type 0 where
+pub record Reading (md : Mode) (k : Chunk) (f : List ℕ) (c : Coded) (s : Snapshot) (ss : Option (List ℕ)) : Type 0 where
   pub fits : k .size + k .first ≤ length f
-  pub coded : decoded (k .key) (heldBy k f) .got ≡ c
-  pub seen : snapshot (bits (heldBy k f)) (decoded (k .key) (heldBy k f) .then) ≡ s
+  pub coded : decoded md (k .key) (heldBy md k f) .got ≡ c
+  pub seen : snapshot (bits (heldBy md k f)) (decoded md (k .key) (heldBy md k f) .then) ≡ s
   pub parts : sizes (2 ^ c .log2parts) (drop (k .size) f) (k .first) ≡ ss
 
-body-read : (k : Chunk) (f : List ℕ) (c : Coded) (s : Snapshot) (ss : Option (List ℕ)) → body k f ≡ read c s ss → Reading k f c s ss
+body-read : (md : Mode) (k : Chunk) (f : List ℕ) (c : Coded) (s : Snapshot) (ss : Option (List ℕ)) → body md k f ≡ read c s ss → Reading md k f c s ss
 unfolding body headed
-body-read k f c s ss e = go (ltb (length f) (k .size + k .first)) refl (heldBy k f) refl e
+body-read md k f c s ss e = go (ltb (length f) (k .size + k .first)) refl (heldBy md k f) refl e
   where
     from : (b : Bool) (a : List ℕ) → Body
     from b a = elim b [
       | true ↦ beyond (k .size + k .first) (length f)
-      | false ↦ elim a [ [] ↦ empty | x ∷ xs ↦ headed k (drop (k .size) f) (x ∷ xs) (decoded (k .key) (x ∷ xs)) ]
+      | false ↦ elim a [ [] ↦ empty | x ∷ xs ↦ headed k (drop (k .size) f) (x ∷ xs) (decoded md (k .key) (x ∷ xs)) ]
     ]
 
-    go : (b : Bool) → ltb (length f) (k .size + k .first) ≡ b → (a : List ℕ) → heldBy k f ≡ a → from b a ≡ read c s ss
-        → Reading k f c s ss
+    go : (b : Bool) → ltb (length f) (k .size + k .first) ≡ b → (a : List ℕ) → heldBy md k f ≡ a → from b a ≡ read c s ss
+        → Reading md k f c s ss
     go true h a g e = absurd (let z : _≡_ {A = ℕ} 0 1 = cc in omega arith)
     go false h [] g e = absurd (let z : _≡_ {A = ℕ} 0 1 = cc in omega arith)
     go false h (x ∷ xs) g e =
-        let o = decoded (k .key) (x ∷ xs) in
+        let o = decoded md (k .key) (x ∷ xs) in
         let coded : o .got ≡ c = cc in
         let seen : snapshot (bits (x ∷ xs)) (o .then) ≡ s = cc in
         let parts : sizes (2 ^ o .got .log2parts) (drop (k .size) f) (k .first) ≡ ss = cc in
@@ -87,29 +88,29 @@ body-read k f c s ss e = go (ltb (length f) (k .size + k .first)) refl (heldBy k
         }
 
 -- an accepted call: what the frame said, and the answer that this makes
-pub record Accepting (p : Parser) (f : List ℕ) : Type 0 where
+pub record Accepting (md : Mode) (p : Parser) (f : List ℕ) : Type 0 where
   pub k : Chunk
   pub c : Coded
   pub s : Snapshot
   pub ss : List ℕ
   pub opens : chunk f ≡ opened k
-  pub reading : Reading k f c s (some ss)
-  pub answers : call p f ≡ answer Accepted (headerOf k c s ss (shown (k .key) (probsOver c (probsOf (base k p))))) (apply c (base k p))
+  pub reading : Reading md k f c s (some ss)
+  pub answers : call md p f ≡ answer Accepted (headerOf k c s ss (shown (k .key) (probsOver c (probsOf (base k p))))) (apply c (base k p))
 
-accepts-body : (p : Parser) (f : List ℕ) (k : Chunk) → chunk f ≡ opened k → call p f ≡ finish (follows k (body k f)) p
-    → finish (follows k (body k f)) p .outcome ≡ Accepted → Accepting p f
-accepts-body p f k o q = go (body k f) refl q
+accepts-body : (md : Mode) (p : Parser) (f : List ℕ) (k : Chunk) → chunk f ≡ opened k → call md p f ≡ finish (follows k (body md k f)) p
+    → finish (follows k (body md k f)) p .outcome ≡ Accepted → Accepting md p f
+accepts-body md p f k o q = go (body md k f) refl q
   where
-    go : (b : Body) → body k f ≡ b → call p f ≡ finish (follows k b) p → finish (follows k b) p .outcome ≡ Accepted → Accepting p f
+    go : (b : Body) → body md k f ≡ b → call md p f ≡ finish (follows k b) p → finish (follows k b) p .outcome ≡ Accepted → Accepting md p f
     go (beyond x y) e q h = absurd (let z : _≡_ {A = ℕ} 0 1 = cc in omega arith)
     go empty e q h = absurd (let z : _≡_ {A = ℕ} 0 1 = cc in omega arith)
     go (read c s none) e q h = absurd (let z : _≡_ {A = ℕ} 0 1 = cc in omega arith)
-    go (read c s (some ss)) e q h = record { k = k; c = c; s = s; ss = ss; opens = o; reading = body-read k f c s (some ss) e; answers = q }
+    go (read c s (some ss)) e q h = record { k = k; c = c; s = s; ss = ss; opens = o; reading = body-read md k f c s (some ss) e; answers = q }
 
-pub accepted : (p : Parser) (f : List ℕ) → call p f .outcome ≡ Accepted → Accepting p f
+pub accepted : (md : Mode) (p : Parser) (f : List ℕ) → call md p f .outcome ≡ Accepted → Accepting md p f
 unfolding call decode
-accepted p f h = go (chunk f) refl (shuts f) h
+accepted md p f h = go (chunk f) refl (shuts f) h
   where
-    go : (x : Opened) → chunk f ≡ x → Shuts x → finish (inside x f) p .outcome ≡ Accepted → Accepting p f
+    go : (x : Opened) → chunk f ≡ x → Shuts x → finish (inside md x f) p .outcome ≡ Accepted → Accepting md p f
     go (shut o) e z h = absurd (omega (arith, z, ap numberOf h))
-    go (opened k) e z h = accepts-body p f k e (ap (λ (x : Opened). finish (inside x f) p) e) h
+    go (opened k) e z h = accepts-body md p f k e (ap (λ (x : Opened). finish (inside md x f) p) e) h

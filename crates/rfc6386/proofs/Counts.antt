@@ -11,6 +11,7 @@ use lib.IntN.{ℤ, pos}
 use lib.ListN.{length}
 use borrow.Author.Tests.{ltb-true}
 use Rattle.vp8_probs.specs.Tables.{coeffUpdate, mvUpdate}
+use Rattle.vp8_records.specs.declared.Mode.{Mode}
 use Rattle.rfc6386.specs.Decoder.{State, start, bits, readBool}
 use Rattle.rfc6386.specs.Reads.{Rd, ret, ask, _>>=_, run, bool, flag, when, litFrom, lit, sint, make, times, each, maybe, orElse}
 use Rattle.rfc6386.specs.Coded.{anew, features, noFeatures, mapped, segments, deltas, quant, refresh, coefficients}
@@ -123,11 +124,11 @@ of-features : Counted features 9 69
 unfolding features
 of-features = both _ a-flag (λ mode. both _ (values 4 _ (a-sint 7)) (λ q. both _ (values 4 _ (a-sint 6)) (λ l. none _)))
 
-of-segments : Counted segments 1 99
+of-segments : (md : Mode) → Counted (segments md) 1 99
 unfolding segments
-of-segments =
+of-segments md =
     both _ a-flag (λ e. both _ (under e false a-flag) (λ m. both _ (under e false a-flag) (λ d.
-    both _ (under d noFeatures of-features) (λ f. both _ (under (mapped m d) [] (values 3 255 (a-lit 8))) (λ p. none _)))))
+    both _ (under d noFeatures of-features) (λ f. both _ (under (mapped md m d) [] (values 3 255 (a-lit 8))) (λ p. none _)))))
 
 of-deltas : Counted deltas 1 66
 unfolding deltas
@@ -174,28 +175,28 @@ of-inter =
     both _ of-motion (λ m. none _))))))
 
 -- both kinds of frame, with bounds on what is their own: the first two flags, the refresh flags, the last fields
-of-header : (key : Bool) {a b c d e g : ℕ} → Counted (when key flag false) a b → Counted (refresh key) c d
+of-header : (md : Mode) (key : Bool) {a b c d e g : ℕ} → Counted (when key flag false) a b → Counted (refresh key) c d
     → Counted (when (not key) inter noInter) e g
-    → Counted (header key) (a + (a + (1 + (1 + (6 + (3 + (1 + (2 + (12 + (c + (1056 + (1 + (0 + (e + 0))))))))))))))
+    → Counted (header md key) (a + (a + (1 + (1 + (6 + (3 + (1 + (2 + (12 + (c + (1056 + (1 + (0 + (e + 0))))))))))))))
     (b + (b + (99 + (1 + (6 + (3 + (66 + (2 + (37 + (d + (9504 + (1 + (8 + (g + 0))))))))))))))
 unfolding header
-of-header key f r it =
+of-header md key f r it =
     both _ f (λ cs. both _ f (λ ct.
-    both _ of-segments (λ sg. both _ a-flag (λ ft. both _ (a-lit 6) (λ ll. both _ (a-lit 3) (λ sh. both _ of-deltas (λ ds.
+    both _ (of-segments md) (λ sg. both _ a-flag (λ ft. both _ (a-lit 6) (λ ll. both _ (a-lit 3) (λ sh. both _ of-deltas (λ ds.
     both _ (a-lit 2) (λ lp. both _ of-quant (λ q. both _ r (λ rf. both _ of-coefficients (λ co. both _ a-flag (λ sk.
     both _ (under sk 0 (a-lit 8)) (λ sp. both _ it (λ x. none _))))))))))))))
 
-pub key-header : Counted (header true) 1086 9730
+pub key-header : (md : Mode) → Counted (header md true) 1086 9730
 unfolding when
-key-header = of-header true a-flag of-refresh-key (none noInter)
+key-header md = of-header md true a-flag of-refresh-key (none noInter)
 
-pub inter-header : Counted (header false) 1153 10123
+pub inter-header : (md : Mode) → Counted (header md false) 1153 10123
 unfolding when
-inter-header = of-header false (none false) of-refresh-inter of-inter
+inter-header md = of-header md false (none false) of-refresh-inter of-inter
 
-pub asks-header : (key : Bool) → Asks (header key)
-asks-header true = key-header .asks
-asks-header false = inter-header .asks
+pub asks-header : (md : Mode) (key : Bool) → Asks (header md key)
+asks-header md true = key-header md .asks
+asks-header md false = inter-header md .asks
 
 -- at most seven doublings a bool
 pub few-doublings : {A : Type 0} (m : Rd A) (l : ℕ) (s : State) → run m l s .then .c + 7 * s .n ≤ s .c + 7 * run m l s .then .n
@@ -206,13 +207,13 @@ few-doublings (ask p k) l s =
     omega (arith, few-doublings (k (o .got)) l (o .then), read-few l p s)
 
 -- no header makes more than 70,861 doublings
-pub header-doublings : (key : Bool) (area : List ℕ) → run (header key) (bits area) (start area) .then .c ≤ 70861
+pub header-doublings : (md : Mode) (key : Bool) (area : List ℕ) → run (header md key) (bits area) (start area) .then .c ≤ 70861
 unfolding start
-header-doublings key area = most key (few-doublings (header key) (bits area) (start area))
+header-doublings md key area = most key (few-doublings (header md key) (bits area) (start area))
   where
     o : Bool → State
-    o key = run (header key) (bits area) (start area) .then
+    o key = run (header md key) (bits area) (start area) .then
 
     most : (key : Bool) → o key .c + 7 * 0 ≤ 0 + 7 * o key .n → o key .c ≤ 70861
-    most true h = omega (arith, h, key-header .high (bits area) (start area))
-    most false h = omega (arith, h, inter-header .high (bits area) (start area))
+    most true h = omega (arith, h, key-header md .high (bits area) (start area))
+    most false h = omega (arith, h, inter-header md .high (bits area) (start area))

@@ -5,6 +5,7 @@ use mathlib.Core.Path.{_≡_, refl, ap}
 use mathlib.Core.Bool.{false}
 use mathlib.Core.Option.{none, some}
 use mathlib.Core.List.{List}
+use Rattle.vp8_records.specs.declared.Mode.{Mode}
 use Rattle.vp8_records.specs.declared.Parser.{Parser}
 use Rattle.vp8_records.specs.Start.{blank}
 use Rattle.rfc6386.specs.Frame.{Chunk, Opened, shut, opened, chunk}
@@ -38,9 +39,9 @@ finish-covers (follows k (read c s (some ss))) p =
     record { across = blocks-span (k .width % 2 ^ 14); down = blocks-span (k .height % 2 ^ 14) }
 
 -- of every call, refused ones too, whose header is blank
-pub call-covers : (p : Parser) (f : List ℕ) → Covers (call p f .header)
+pub call-covers : (md : Mode) (p : Parser) (f : List ℕ) → Covers (call md p f .header)
 unfolding call
-call-covers p f = finish-covers (decode f) p
+call-covers md p f = finish-covers (decode md f) p
 
 -- a chunk that is no key frame's has no sizes
 abbrev Unsized : Opened → Type 0
@@ -56,7 +57,7 @@ unfolding blank
 blank-none = (refl, refl)
 
 -- an inter frame's header has neither columns nor rows
-module _ (p : Parser) where
+module _ (md : Mode) (p : Parser) where
   body-none : (k : Chunk) (b : Body) → Unsized (opened k) → finish (follows k b) p .header .«key_frame» ≡ false
       → NoBlocks (finish (follows k b) p .header)
   unfolding headerOf
@@ -66,10 +67,10 @@ module _ (p : Parser) where
   body-none k (read c s (some ss)) u e =
       (ap (λ (n : ℕ). blocks (n % 2 ^ 14)) (u e .0), ap (λ (n : ℕ). blocks (n % 2 ^ 14)) (u e .1))
 
-  pub inter-none : (f : List ℕ) → call p f .header .«key_frame» ≡ false → NoBlocks (call p f .header)
+  pub inter-none : (f : List ℕ) → call md p f .header .«key_frame» ≡ false → NoBlocks (call md p f .header)
   unfolding call decode
   inter-none f = go (chunk f) (unsized f)
     where
-      go : (x : Opened) → Unsized x → finish (inside x f) p .header .«key_frame» ≡ false → NoBlocks (finish (inside x f) p .header)
+      go : (x : Opened) → Unsized x → finish (inside md x f) p .header .«key_frame» ≡ false → NoBlocks (finish (inside md x f) p .header)
       go (shut o) u e = blank-none
-      go (opened k) u e = body-none k (body k f) u e
+      go (opened k) u e = body-none k (body md k f) u e

@@ -12,6 +12,7 @@ use lib.ListN.{length, take, drop, replicate, length-drop, length-append, take-a
 use lib.Pow.{pow-pos}
 use lib.Seq.{length-take-le, take-at, take-take}
 use borrow.Author.Tests.{ltb-false}
+use Rattle.vp8_records.specs.declared.Mode.{Mode}
 use Rattle.vp8_records.specs.declared.Parser.{Parser}
 use Rattle.vp8_records.specs.declared.Parsed.{Parsed}
 use Rattle.vp8_records.specs.declared.Outcome.the-variants.{Accepted}
@@ -77,22 +78,22 @@ sizes-fill n area first ss h e = go (ltb (length area) from) refl (ltb (length a
 abbrev pub FewParts : Coded → Type 0
 FewParts c = c .log2parts < 4
 
-pub few-parts : (key : Bool) → Always FewParts (header key)
-few-parts key l s = header-fits key l s .log2parts
+pub few-parts : (md : Mode) (key : Bool) → Always FewParts (header md key)
+few-parts md key l s = header-fits md key l s .log2parts
 
 -- n is 1, 2, 4 or 8
 few-partitions : (x : ℕ) → x < 4 → 2 ^ x ≤ 8
 few-partitions x h = pow-le-pow-right {n = 2} (omega arith) {i = x} {j = 3} (omega arith)
 
 -- the parts' lengths by the header of an accepted frame add up to the frame
-module _ (p : Parser) (f : List ℕ) (h : call p f .outcome ≡ Accepted) where
-  adds-up : sum (lengths (call p f .header)) ≡ length f
+module _ (md : Mode) (p : Parser) (f : List ℕ) (h : call md p f .outcome ≡ Accepted) where
+  adds-up : sum (lengths (call md p f .header)) ≡ length f
   unfolding headerOf sum
   adds-up =
-      let a = accepted p f h in
+      let a = accepted md p f h in
       let n : ℕ = 2 ^ a .c .log2parts in
-      let bytes : List ℕ = heldBy (a .k) f in
-      let small : a .c .log2parts < 4 = rw (a .reading .coded) at (few-parts (a .k .key) (bits bytes) (start bytes)) in
+      let bytes : List ℕ = heldBy md (a .k) f in
+      let small : a .c .log2parts < 4 = rw (a .reading .coded) at (few-parts md (a .k .key) (bits bytes) (start bytes)) in
       let eight : n ≤ 8 = few-partitions _ small in
       let some : 0 < n = pow-pos (a .c .log2parts) in
       let r = sizes-fill n (drop (a .k .size) f) (a .k .first) (a .ss) some (a .reading .parts) in
@@ -101,26 +102,26 @@ module _ (p : Parser) (f : List ℕ) (h : call p f .outcome ≡ Accepted) where
       ap (λ (x : Parsed). sum (lengths (x .header))) (a .answers)
       ∙ rw take8 (omega (arith, r .1, length-drop (a .k .size) f, a .reading .fits))
 
-  pub accepted-fills : Fills (call p f .header) f
+  pub accepted-fills : Fills (call md p f .header) f
   accepted-fills =
-      let c = cuts-are (lengths (call p f .header)) f adds-up in
+      let c = cuts-are (lengths (call md p f .header)) f adds-up in
       record { each = c .0; whole = c .1 }
 
   -- a key frame has 1,086 to 9,730 bools, an inter frame 1,153 to 10,123
-  bools-are : (b : Bool) → call p f .header .«key_frame» ≡ b → (lo hi : ℕ) → Counted (header b) lo hi
-      → (lo ≤ call p f .header .bools) × (call p f .header .bools ≤ hi)
+  bools-are : (b : Bool) → call md p f .header .«key_frame» ≡ b → (lo hi : ℕ) → Counted (header md b) lo hi
+      → (lo ≤ call md p f .header .bools) × (call md p f .header .bools ≤ hi)
   unfolding headerOf snapshot start
   bools-are b e lo hi q =
-      let a = accepted p f h in
+      let a = accepted md p f h in
       let key : a .k .key ≡ b = sym (ap (λ (x : Parsed). x .header .«key_frame») (a .answers)) ∙ e in
-      let bytes : List ℕ = heldBy (a .k) f in
-      let n : call p f .header .bools ≡ decoded b bytes .then .n =
+      let bytes : List ℕ = heldBy md (a .k) f in
+      let n : call md p f .header .bools ≡ decoded md b bytes .then .n =
       ap (λ (x : Parsed). x .header .bools) (a .answers) ∙ sym (ap (λ (s : Snapshot). s .bools) (a .reading .seen))
-      ∙ ap (λ (key : Bool). decoded key bytes .then .n) key in
+      ∙ ap (λ (key : Bool). decoded md key bytes .then .n) key in
       (omega (arith, n, q .low (bits bytes) (start bytes)), omega (arith, n, q .high (bits bytes) (start bytes)))
 
-  pub key-bools : call p f .header .«key_frame» ≡ true → (1086 ≤ call p f .header .bools) × (call p f .header .bools ≤ 9730)
-  key-bools e = bools-are true e 1086 9730 key-header
+  pub key-bools : call md p f .header .«key_frame» ≡ true → (1086 ≤ call md p f .header .bools) × (call md p f .header .bools ≤ 9730)
+  key-bools e = bools-are true e 1086 9730 (key-header md)
 
-  pub inter-bools : call p f .header .«key_frame» ≡ false → (1153 ≤ call p f .header .bools) × (call p f .header .bools ≤ 10123)
-  inter-bools e = bools-are false e 1153 10123 inter-header
+  pub inter-bools : call md p f .header .«key_frame» ≡ false → (1153 ≤ call md p f .header .bools) × (call md p f .header .bools ≤ 10123)
+  inter-bools e = bools-are false e 1153 10123 (inter-header md)

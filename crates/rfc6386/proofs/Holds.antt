@@ -10,6 +10,7 @@ use lib.Dec.{lit≤, lit<}
 use lib.IntN.{pos}
 use lib.ListN.{length}
 use Rattle.vp8_probs.specs.Tables.{coeffUpdate, mvUpdate}
+use Rattle.vp8_records.specs.declared.Mode.{Mode}
 use Rattle.rfc6386.specs.Decoder.{State, start, bits, readBool}
 use Rattle.rfc6386.specs.Reads.{Rd, ret, ask, flag, when, lit, sint, times, each, maybe}
 use Rattle.rfc6386.specs.Coded.{Features, Segments, Deltas, Inter, anew, features, noFeatures, mapped, segments, deltas, quant}
@@ -28,9 +29,9 @@ all-ranged (ask p k) h l s g j =
     (record { least = sp .0; most = sp .1; back = w .0; byte = w .1 }, all-ranged (k (o .got)) (h .1 (o .got)) l (o .then) (w .0) (w .1))
 
 -- every read of every header, over any bytes
-pub header-ranged : (key : Bool) (area : List ℕ) → AllRanged (header key) (bits area) (start area)
+pub header-ranged : (md : Mode) (key : Bool) (area : List ℕ) → AllRanged (header md key) (bits area) (start area)
 unfolding start
-header-ranged key area = all-ranged (header key) (asks-header key) (bits area) (start area) (lit≤ tt) (lit< tt)
+header-ranged md key area = all-ranged (header md key) (asks-header md key) (bits area) (start area) (lit≤ tt) (lit< tt)
 
 abbrev Long : {A : Type 0} → ℕ → List A → Type 0
 Long n xs = length xs ≡ n
@@ -83,15 +84,15 @@ of-features =
 abbrev OfSegments : Segments → Type 0
 OfSegments g = Group 4 (g .quantizers) × Group 4 (g .levels) × Group 3 (g .probs)
 
-of-segments : Always OfSegments segments
+of-segments : (md : Mode) → Always OfSegments (segments md)
 unfolding segments
-of-segments =
+of-segments md =
     always-skip OfSegments flag _ (λ e. always-skip OfSegments (when e flag false) _ (λ m.
     always-skip OfSegments (when e flag false) _ (λ d.
     always-bind OfFeatures OfSegments (when d features noFeatures) _
     (under OfFeatures d features noFeatures of-features (inl refl, inl refl)) (λ f hf.
-    always-bind (Group 3) OfSegments (when (mapped m d) (anew 3 (lit 8) 255) []) _
-    (group-if 3 (mapped m d) _ (anew-long 3 (lit 8) 255)) (λ p hp. always-ret OfSegments _ (hf .0, hf .1, hp))))))
+    always-bind (Group 3) OfSegments (when (mapped md m d) (anew 3 (lit 8) 255) []) _
+    (group-if 3 (mapped md m d) _ (anew-long 3 (lit 8) 255)) (λ p hp. always-ret OfSegments _ (hf .0, hf .1, hp))))))
 
 abbrev OfDeltas : Deltas → Type 0
 OfDeltas d = Group 4 (d .frames) × Group 4 (d .modes)
@@ -130,12 +131,12 @@ of-inter =
     always-bind (Long 38) OfInter motion _ of-motion (λ m hm. always-ret OfInter _ (hy, hc, inr hm)))))))
 
 -- every header, over any bytes
-pub header-fits : (key : Bool) → Always Fits (header key)
+pub header-fits : (md : Mode) (key : Bool) → Always Fits (header md key)
 unfolding header
-header-fits key =
+header-fits md key =
     let nothing : OfInter noInter = (inl refl, inl refl, inl refl) in
     always-skip Fits (when key flag false) _ (λ cs. always-skip Fits (when key flag false) _ (λ ct.
-    always-bind OfSegments Fits segments _ of-segments (λ sg hs.
+    always-bind OfSegments Fits (segments md) _ (of-segments md) (λ sg hs.
     always-skip Fits flag _ (λ ft. always-skip Fits (lit 6) _ (λ ll. always-skip Fits (lit 3) _ (λ sh.
     always-bind OfDeltas Fits deltas _ of-deltas (λ ds hd.
     always-bind (λ x. x < 4) Fits (lit 2) _ (lit-small 2) (λ lp few.

@@ -13,6 +13,7 @@ use lib.ListN.{length, take, length-take}
 use lib.Seq.{take-all, take-take, length-take-le, getD-take}
 use borrow.Author.Tests.{lt-leb, le-leb, le-ltb}
 use Rattle.vp8_records.specs.declared.Look.{Look}
+use Rattle.vp8_records.specs.declared.Mode.{Mode}
 use Rattle.vp8_records.specs.declared.Outcome.{Outcome}
 use Rattle.vp8_records.specs.declared.Outcome.the-variants.{Accepted, InvalidStartCode, FrameTooLong}
 use Rattle.vp8_records.specs.declared.Parsed.{Parsed}
@@ -104,13 +105,13 @@ barred-early f o = go (chunk (take 10 f)) (chunk-bars (take 10 f) (omega (arith,
     go (shut u) b e = let d : u ≡ o = cc in rw (← d) b
     go (opened k) b e = absurd (let z : _≡_ {A = ℕ} 0 1 = cc in omega arith)
 
-module _ (p : Parser) (f : List ℕ) where
+module _ (md : Mode) (p : Parser) (f : List ℕ) where
   -- where a look refuses a frame under 2^28 bytes, so does the call, alike
-  pub barred-refused : length f < 2 ^ 28 → (o : Outcome) → peek f ≡ barred o → call p f ≡ answer o blank p
+  pub barred-refused : length f < 2 ^ 28 → (o : Outcome) → peek f ≡ barred o → call md p f ≡ answer o blank p
   unfolding call decode
   barred-refused h o e = go (chunk f) refl (sym (peek-chunk f h) ∙ e)
     where
-      go : (x : Opened) → chunk f ≡ x → looked x ≡ barred o → finish (inside (chunk f) f) p ≡ answer o blank p
+      go : (x : Opened) → chunk f ≡ x → looked x ≡ barred o → finish (inside md (chunk f) f) p ≡ answer o blank p
       go (shut u) d e = let q : u ≡ o = cc in rw (d, q)
       go (opened k) d e = absurd (let z : _≡_ {A = ℕ} 0 1 = cc in omega arith)
 
@@ -122,25 +123,25 @@ module _ (p : Parser) (f : List ℕ) where
   body-late k (read c s (some ss)) e = omega (arith, e .0)
 
   -- where the call gives 1 or 2, so does a look, with the same code
-  pub refused-barred : Early (call p f .outcome) → peek f ≡ barred (call p f .outcome)
+  pub refused-barred : Early (call md p f .outcome) → peek f ≡ barred (call md p f .outcome)
   unfolding call decode
   refused-barred e = go (decLe (2 ^ 28) (length f)) (chunk f) refl e
     where
-      go : Dec (2 ^ 28 ≤ length f) → (x : Opened) → chunk f ≡ x → Early (finish (inside x f) p .outcome)
-          → peek f ≡ barred (finish (inside x f) p .outcome)
+      go : Dec (2 ^ 28 ≤ length f) → (x : Opened) → chunk f ≡ x → Early (finish (inside md x f) p .outcome)
+          → peek f ≡ barred (finish (inside md x f) p .outcome)
       go (no h) (shut o) d e = peek-chunk f (omega (arith, h)) ∙ ap looked d
       go (yes h) (shut o) d e = absurd (let l = over-long f h in let q : o ≡ FrameTooLong (length f) = cc in omega (arith, e .1, ap numberOf q))
-      go h (opened k) d e = absurd (body-late k (body k f) e)
+      go h (opened k) d e = absurd (body-late k (body md k f) e)
 
   -- where the call accepts, a look has seen the header's own fields
-  pub accepted-seen : call p f .outcome ≡ Accepted → peek f ≡ seen (lookIn (call p f .header))
+  pub accepted-seen : call md p f .outcome ≡ Accepted → peek f ≡ seen (lookIn (call md p f .header))
   unfolding headerOf
   accepted-seen h =
-      let a = accepted p f h in
+      let a = accepted md p f h in
       peek-chunk f (opened-fits f (a .k) (sym (a .opens))) ∙ ap looked (a .opens) ∙ sym (ap (λ (r : Parsed). seen (lookIn (r .header))) (a .answers))
 
   -- where the call refuses by 3, 4 or 5, a look sees
-  pub refused-seen : length f < 2 ^ 28 → 3 ≤ numberOf (call p f .outcome) → (l : Look) × (peek f ≡ seen l)
+  pub refused-seen : length f < 2 ^ 28 → 3 ≤ numberOf (call md p f .outcome) → (l : Look) × (peek f ≡ seen l)
   refused-seen h n = go (peek f) refl
     where
       go : (x : Peek) → peek f ≡ x → (l : Look) × (peek f ≡ seen l)

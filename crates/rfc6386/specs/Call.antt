@@ -11,6 +11,7 @@ use Rattle.vp8_records.specs.declared.MvProbs.{MvProbs}
 use Rattle.vp8_records.specs.declared.ModeProbs.{ModeProbs}
 use Rattle.vp8_records.specs.declared.Parser.{Parser}
 use Rattle.vp8_records.specs.declared.Header.{Header}
+use Rattle.vp8_records.specs.declared.Mode.{Mode}
 use Rattle.vp8_records.specs.declared.Parsed.{Parsed}
 use Rattle.vp8_records.specs.declared.Outcome.{Outcome}
 use Rattle.vp8_records.specs.declared.Outcome.the-variants.{Accepted, InvalidPartitionSize, EmptyArea, EndOfHeader}
@@ -172,14 +173,22 @@ finish (follows k empty) p = answer EmptyArea blank (base k (cleared p))
 finish (follows k (read c s ss)) p = sized ss k c s (base k p)
 
 -- one call
-unfoldable pub call : Parser → List ℕ → Parsed
-call p f = finish (decode f) p
+unfoldable pub call : Mode → Parser → List ℕ → Parsed
+call md p f = finish (decode md f) p
+
+-- what one call asks: a frame, and whose reading of it
+pub record Asked : Type 0 where
+  pub mode : Mode
+  pub frame : List ℕ
+
+abbrev pub called : Parser → Asked → Parsed
+called p x = call (x .mode) p (x .frame)
 
 -- any calls: the answer of each, and the state after all
-unfoldable pub calls : Parser → List (List ℕ) → List Parsed
+unfoldable pub calls : Parser → List Asked → List Parsed
 calls p [] = []
-calls p (f ∷ fs) = call p f ∷ calls (call p f .parser) fs
+calls p (x ∷ xs) = called p x ∷ calls (called p x .parser) xs
 
-unfoldable pub after : Parser → List (List ℕ) → Parser
+unfoldable pub after : Parser → List Asked → Parser
 after p [] = p
-after p (f ∷ fs) = after (call p f .parser) fs
+after p (x ∷ xs) = after (called p x .parser) xs

@@ -6,6 +6,8 @@ use mathlib.Core.Option.{Option, none, some}
 use mathlib.Core.List.{List, []}
 use lib.IntN.{ℤ, pos}
 use Rattle.vp8_probs.specs.Tables.{coeffUpdate, mvUpdate}
+use Rattle.vp8_records.specs.declared.Mode.{Mode}
+use Rattle.vp8_records.specs.declared.Mode.the-variants.{Rust, Standard}
 use Rattle.vp8_records.specs.declared.QuantIndices.{QuantIndices}
 use Rattle.rfc6386.specs.Reads.{Rd, ret, _>>=_, flag, when, lit, sint, make, times, each, maybe, orElse}
 
@@ -39,17 +41,18 @@ features = do
 abbrev pub noFeatures : Features
 noFeatures = record { mode = none; quantizers = []; levels = [] }
 
--- D1: the probabilities are coded where the map and the data are, and not where the map alone is
-abbrev pub mapped : Bool → Bool → Bool
-mapped m d = m && d
+-- whether the probabilities are coded: where the map is; to the Rust only where the data are too (D1)
+abbrev pub mapped : Mode → Bool → Bool → Bool
+mapped Rust m d = m && d
+mapped Standard m d = m
 
-unfoldable pub segments : Rd Segments
-segments = do
+unfoldable pub segments : Mode → Rd Segments
+segments md = do
   e ← flag
   m ← when e flag false
   d ← when e flag false
   f ← when d features noFeatures
-  p ← when (mapped m d) (anew 3 (lit 8) 255) []
+  p ← when (mapped md m d) (anew 3 (lit 8) 255) []
   ret (record { enabled = e; updateMap = m; updateData = d; mode = f .mode; quantizers = f .quantizers; levels = f .levels; probs = p })
 
 -- section 9.4
@@ -170,11 +173,11 @@ pub record Coded : Type 0 where
   pub inter : Inter
 
 -- section 19.2; a field that is not read is 0 or false
-unfoldable pub header : Bool → Rd Coded
-header key = do
+unfoldable pub header : Mode → Bool → Rd Coded
+header md key = do
   cs ← when key flag false
   ct ← when key flag false
-  sg ← segments
+  sg ← segments md
   ft ← flag
   ll ← lit 6
   sh ← lit 3

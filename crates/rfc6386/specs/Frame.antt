@@ -4,7 +4,9 @@ use mathlib.Core.Bool.{Bool, true, false}
 use mathlib.Core.Option.{Option, none, some}
 use mathlib.Core.List.{List, [], _∷_, _++_}
 use lib.Dec.{leb, ltb, eqb}
-use lib.ListN.{length, drop}
+use lib.ListN.{length, take, drop}
+use Rattle.vp8_records.specs.declared.Mode.{Mode}
+use Rattle.vp8_records.specs.declared.Mode.the-variants.{Rust, Standard}
 use Rattle.vp8_records.specs.declared.Outcome.{Outcome}
 use Rattle.vp8_records.specs.declared.Outcome.the-variants.{ChunkTooShort, InvalidStartCode, FrameTooLong}
 use Rattle.rfc6386.specs.Bytes.{le2, le3}
@@ -115,26 +117,27 @@ pub data Body : Type 0 where
   empty : Body
   read : Coded → Snapshot → Option (List ℕ) → Body
 
--- what the decoder may read of the area, by first_part_size: all of it, and not the first partition alone (D2)
-abbrev pub held : ℕ → List ℕ → List ℕ
-held first area = area
+-- what the decoder may read of the area: the first partition, by first_part_size; to the Rust all of it (D2)
+abbrev pub held : Mode → ℕ → List ℕ → List ℕ
+held Rust first area = area
+held Standard first area = take first area
 
 -- the header's tree, run over the bytes that are held
-abbrev pub decoded : Bool → List ℕ → Out Coded
-decoded key bytes = run (header key) (bits bytes) (start bytes)
+abbrev pub decoded : Mode → Bool → List ℕ → Out Coded
+decoded md key bytes = run (header md key) (bits bytes) (start bytes)
 
 -- the snapshot is of the bytes that are held; the sizes stand in the area
 unfoldable pub headed : Chunk → List ℕ → List ℕ → Out Coded → Body
 headed k area bytes o = read (o .got) (snapshot (bits bytes) (o .then)) (sizes (2 ^ o .got .log2parts) area (k .first))
 
-unfoldable pub body : Chunk → List ℕ → Body
-body k f =
+unfoldable pub body : Mode → Chunk → List ℕ → Body
+body md k f =
     let area = drop (k .size) f in
     elim (ltb (length f) (k .size + k .first)) [
       | true ↦ beyond (k .size + k .first) (length f)
-      | false ↦ elim (held (k .first) area) [
+      | false ↦ elim (held md (k .first) area) [
         | [] ↦ empty
-        | b ∷ bs ↦ headed k area (b ∷ bs) (decoded (k .key) (b ∷ bs))
+        | b ∷ bs ↦ headed k area (b ∷ bs) (decoded md (k .key) (b ∷ bs))
       ]
     ]
 
@@ -142,9 +145,9 @@ pub data Said : Type 0 where
   refused : Outcome → Said
   follows : Chunk → Body → Said
 
-abbrev pub inside : Opened → List ℕ → Said
-inside (shut o) f = refused o
-inside (opened k) f = follows k (body k f)
+abbrev pub inside : Mode → Opened → List ℕ → Said
+inside md (shut o) f = refused o
+inside md (opened k) f = follows k (body md k f)
 
-unfoldable pub decode : List ℕ → Said
-decode f = inside (chunk f) f
+unfoldable pub decode : Mode → List ℕ → Said
+decode md f = inside md (chunk f) f

@@ -1,4 +1,4 @@
--- Every case of the list is as the definition computes it, by computing. The second parser of the cases differs from the fresh one in each
+-- Every case of the list is as the definition computes it in either mode, by computing. The second parser of the cases differs from the fresh one in each
 -- of the 1,126 kept numbers: one computed test over the two runs of numbers, carried to each number by one lemma.
 use Prim.Native.Nat.{ℕ, zero, suc, _<_}
 use native.Mathlib.Omega.{arith}
@@ -10,6 +10,8 @@ use lib.IntN.{ℤ, pos, negsuc}
 use lib.ListN.{length, getD, replicate}
 use borrow.Author.Tests.{eq-eqb}
 use Rattle.vp8_probs.specs.Tables.{coeffDefault, mvDefault}
+use Rattle.vp8_records.specs.declared.Mode.{Mode}
+use Rattle.vp8_records.specs.declared.Mode.the-variants.{Rust, Standard}
 use Rattle.vp8_records.specs.Layout.{rows, joined}
 use Rattle.vp8_records.specs.Start.{freshCoeffs, freshMv, fresh}
 use Rattle.rfc6386.specs.Decoder.{number, start, double, normal, chosen, readBool, whole, countOf, position}
@@ -18,10 +20,11 @@ use Rattle.rfc6386.specs.Call.{cleared, call}
 use Rattle.rfc6386_history.specs.Kept.{numbers, kept}
 use Rattle.rfc6386_cases.specs.Cases.{marked, boolsOf, stateAfter, done, cases}
 
-pub cases-hold : map done cases ≡ cases
+pub cases-hold : (md : Mode) → map (done md) cases ≡ cases
 unfolding cases done boolsOf stateAfter marked
     number start double normal chosen readBool whole countOf position keyChunk chunk body decode cleared call
-cases-hold = refl
+cases-hold Rust = refl
+cases-hold Standard = refl
 
 -- whether two runs are as long as each other and differ in every number
 abbrev same : ℤ → ℤ → Bool

@@ -13,7 +13,7 @@ use Rattle.rfc6386.specs.Call.{segmented, adjusted, coeffsOver, mvOver, modesOv
 use Rattle.rfc6386_cases.specs.Cases.{marked}
 use Rattle.rfc6386_cases.specs.Fields.{Example, examples}
 
-pub fields-hold : map (λ (x : Example). call (x .over) (x .bytes)) examples ≡ map (λ (x : Example). x .answer) examples
+pub fields-hold : map (λ (x : Example). call (x .mode) (x .over) (x .bytes)) examples ≡ map (λ (x : Example). x .answer) examples
 unfolding examples marked fresh freshCoeffs freshMv coeffUpdate mvUpdate coeffDefault mvDefault rows joined over
     number start double normal chosen readBool whole countOf position
     _>>=_ run bool flag when litFrom lit sint make times each maybe orElse

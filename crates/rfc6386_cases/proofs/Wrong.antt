@@ -7,6 +7,8 @@ use mathlib.Core.Bool.{Bool, true, false}
 use mathlib.Core.List.{List, [], _∷_, _++_}
 use Rattle.vp8_probs.specs.Tables.{coeffUpdate, mvUpdate}
 use Rattle.vp8_records.specs.declared.Header.{Header}
+use Rattle.vp8_records.specs.declared.Mode.{Mode}
+use Rattle.vp8_records.specs.declared.Mode.the-variants.{Rust, Standard}
 use Rattle.vp8_records.specs.declared.Outcome.{Outcome}
 use Rattle.vp8_records.specs.declared.Outcome.the-variants.{Accepted}
 use Rattle.vp8_records.specs.declared.Parsed.{Parsed}
@@ -44,25 +46,28 @@ told r = record {
   enabled = r .parser .segmentation .«segmentation_enabled»;
 }
 
-six-is : told (call fresh six) ≡ record { outcome = Accepted; bools = 1086; key = true; enabled = false }
+six-is : (md : Mode) → told (call md fresh six) ≡ record { outcome = Accepted; bools = 1086; key = true; enabled = false }
 unfolding coeffUpdate number start double normal chosen readBool whole countOf position _>>=_ run bool flag when litFrom lit sint make
     times each maybe orElse anew features segments deltas quant refresh coefficients inter header keyChunk chunk snapshot codedSizes sum
     sizes headed body decode segmented apply headerOf call
-six-is = refl
+six-is Rust = refl
+six-is Standard = refl
 
 -- over any parser, whose state is not looked at
-seven-is : (p : Parser)
-    → (call p seven .outcome ≡ Accepted) × (call p seven .header .bools ≡ 1157) × (call p seven .header .«key_frame» ≡ false)
+seven-is : (md : Mode) (p : Parser)
+    → (call md p seven .outcome ≡ Accepted) × (call md p seven .header .bools ≡ 1157) × (call md p seven .header .«key_frame» ≡ false)
 unfolding coeffUpdate mvUpdate number start double normal chosen readBool whole countOf position _>>=_ run bool flag when litFrom lit
     sint make times each maybe orElse anew features segments deltas quant refresh coefficients motion modes inter header chunk snapshot
     codedSizes sum sizes headed body decode headerOf call
-seven-is p = (refl, refl, refl)
+seven-is Rust p = (refl, refl, refl)
+seven-is Standard p = (refl, refl, refl)
 
-eleven-is : call fresh eleven .parser .segmentation .«segmentation_enabled» ≡ true
+eleven-is : (md : Mode) → call md fresh eleven .parser .segmentation .«segmentation_enabled» ≡ true
 unfolding coeffUpdate number start double normal chosen readBool whole countOf position _>>=_ run bool flag when litFrom lit sint make
     times each maybe orElse anew features segments deltas quant refresh coefficients inter header keyChunk chunk snapshot codedSizes sum
     sizes headed body decode segmented apply call
-eleven-is = refl
+eleven-is Rust = refl
+eleven-is Standard = refl
 
 fresh-is : fresh .segmentation .«segmentation_enabled» ≡ false
 unfolding fresh
@@ -71,18 +76,18 @@ fresh-is = refl
 apart : (b : Bool) → b ≡ true → b ≡ false → ⊥
 apart b p q = let z : _≡_ {A = ℕ} 0 1 = cc in omega arith
 
-module _ (g : Function) (meets : Meets g) where
+module _ (md : Mode) (g : Function) (meets : Meets md g) where
   six-outcome : g fresh six .outcome ≡ Accepted
-  six-outcome = ap (λ (r : Parsed). r .outcome) (meets fresh six) ∙ ap (λ (t : Told). t .outcome) six-is
+  six-outcome = ap (λ (r : Parsed). r .outcome) (meets fresh six) ∙ ap (λ (t : Told). t .outcome) (six-is md)
 
   seven-outcome : g fresh seven .outcome ≡ Accepted
-  seven-outcome = ap (λ (r : Parsed). r .outcome) (meets fresh seven) ∙ seven-is fresh .0
+  seven-outcome = ap (λ (r : Parsed). r .outcome) (meets fresh seven) ∙ seven-is md fresh .0
 
   six-key : g fresh six .header .«key_frame» ≡ true
-  six-key = ap (λ (r : Parsed). r .header .«key_frame») (meets fresh six) ∙ ap (λ (t : Told). t .key) six-is
+  six-key = ap (λ (r : Parsed). r .header .«key_frame») (meets fresh six) ∙ ap (λ (t : Told). t .key) (six-is md)
 
   seven-key : (p : Parser) → g p seven .header .«key_frame» ≡ false
-  seven-key p = ap (λ (r : Parsed). r .header .«key_frame») (meets p seven) ∙ seven-is p .2
+  seven-key p = ap (λ (r : Parsed). r .header .«key_frame») (meets p seven) ∙ seven-is md p .2
 
   pub not-refuses-all : RefusesAll g → ⊥
   not-refuses-all h = h fresh six six-outcome
@@ -95,7 +100,7 @@ module _ (g : Function) (meets : Meets g) where
   pub not-untouched : Untouched g → ⊥
   not-untouched h =
       apart (g fresh eleven .parser .segmentation .«segmentation_enabled»)
-      (ap (λ (r : Parsed). r .parser .segmentation .«segmentation_enabled») (meets fresh eleven) ∙ eleven-is)
+      (ap (λ (r : Parsed). r .parser .segmentation .«segmentation_enabled») (meets fresh eleven) ∙ eleven-is md)
       (ap (λ (p : Parser). p .segmentation .«segmentation_enabled») (h fresh eleven) ∙ fresh-is)
 
   pub not-repeats : Repeats g → ⊥
@@ -103,23 +108,23 @@ module _ (g : Function) (meets : Meets g) where
       apart (g fresh six .header .«key_frame») six-key
       (ap (λ (y : Header). y .«key_frame») (sym (h six seven)) ∙ seven-key (g fresh six .parser))
 
-  pub not-invents : Invents g → ⊥
+  pub not-invents : Invents md g → ⊥
   not-invents h = h .other (ap (λ (r : Parsed). r .header .bools) (meets (h .parser) (h .frame)))
 
 -- a constant count is invented: if it is that of case 6, it is not that of case 7
-pub constant-invents : (g : Function) (n : ℕ) → Constant n g → Invents g
-constant-invents g n h = go (ℕ-discrete n 1086)
+pub constant-invents : (md : Mode) (g : Function) (n : ℕ) → Constant n g → Invents md g
+constant-invents md g n h = go (ℕ-discrete n 1086)
   where
-    go : Dec (n ≡ 1086) → Invents g
+    go : Dec (n ≡ 1086) → Invents md g
     go (yes e) = record {
       parser = fresh;
       frame = seven;
-      accepted = seven-is fresh .0;
-      other = λ x. omega (arith, h fresh seven, x, seven-is fresh .1, e);
+      accepted = seven-is md fresh .0;
+      other = λ x. omega (arith, h fresh seven, x, seven-is md fresh .1, e);
     }
     go (no e) = record {
       parser = fresh;
       frame = six;
-      accepted = ap (λ (t : Told). t .outcome) six-is;
-      other = λ x. e (sym (h fresh six) ∙ x ∙ ap (λ (t : Told). t .bools) six-is);
+      accepted = ap (λ (t : Told). t .outcome) (six-is md);
+      other = λ x. e (sym (h fresh six) ∙ x ∙ ap (λ (t : Told). t .bools) (six-is md));
     }

@@ -5,6 +5,7 @@ use mathlib.Core.Bool.{Bool, true, false}
 use mathlib.Core.List.{List, [], _∷_}
 use lib.IntN.{pos}
 use lib.ListN.{replicate}
+use Rattle.vp8_records.specs.declared.Mode.{Mode}
 use Rattle.vp8_records.specs.declared.Parser.{Parser}
 use Rattle.vp8_records.specs.declared.Header.{Header}
 use Rattle.vp8_records.specs.declared.Parsed.{Parsed}
@@ -64,10 +65,10 @@ stateAfter l (p ∷ ps) s = stateAfter l ps (readBool l p s .then)
 abbrev pub shown : ℕ → State → List ℕ
 shown l s = s .r ∷ whole l s ∷ countOf s ∷ position l s ∷ []
 
--- the case with its results as the definition gives them
-unfoldable pub done : Case → Case
-done (frame f a b) = frame f (seen (call fresh f)) (seen (call marked f))
-done (reads area ps bs after) =
+-- the case with its results as the definition gives them in a mode
+unfoldable pub done : Mode → Case → Case
+done md (frame f a b) = frame f (seen (call md fresh f)) (seen (call md marked f))
+done md (reads area ps bs after) =
     reads area ps (boolsOf (bits area) ps (start area)) (shown (bits area) (stateAfter (bits area) ps (start area)))
 
 -- a refusal with what it carries, after which the state is as it was, or is reset

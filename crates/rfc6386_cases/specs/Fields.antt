@@ -1,12 +1,14 @@
--- Four frames whose headers have every field coded, each with what RFC 6386 makes of it: two key frames and two inter frames, in which
+-- Five frames whose headers have every field coded, each with what RFC 6386 makes of it: two key frames and three inter frames, in which
 -- neighbours of one width differ, so that no two of them can be crossed. The bytes were written by an encoder made from section 7.3, bool
 -- by bool in the order of section 19.2, and not by way of this definition; the numbers are those that were given to it.
 use Prim.Native.Nat.{ℕ}
 use mathlib.Core.Bool.{true, false}
-use mathlib.Core.List.{List, [], _∷_}
+use mathlib.Core.List.{List, [], _∷_, _++_, map}
 use lib.IntN.{pos, negℤ}
 use lib.ListN.{replicate, set}
 use Rattle.vp8_probs.specs.Tables.{coeffDefault, mvDefault}
+use Rattle.vp8_records.specs.declared.Mode.{Mode}
+use Rattle.vp8_records.specs.declared.Mode.the-variants.{Rust, Standard}
 use Rattle.vp8_records.specs.declared.Parser.{Parser}
 use Rattle.vp8_records.specs.declared.Header.{Header}
 use Rattle.vp8_records.specs.declared.Parsed.{Parsed}
@@ -393,8 +395,9 @@ keptBytes =
     0xC0 ∷ 0x13 ∷ 0x05 ∷ 0x80 ∷ 0x01 ∷ 0x52 ∷ 0xA4 ∷ 0x54 ∷ 0x7B ∷ 0xC7 ∷ 0x42 ∷ 0x0B ∷ 0xF4 ∷ 0x00 ∷ 0x00 ∷ 0x00 ∷
     0x01 ∷ 0x02 ∷ 0x03 ∷ []
 
-abbrev keptHeader : Header
-keptHeader = record {
+-- by the bytes of its first partition, and by how many bools and doublings the segmentation takes beyond the rest
+abbrev keptHeader : ℕ → ℕ → ℕ → ℕ → Header
+keptHeader first count doublings bools = record {
   -- section 9.1, bit 0 of the tag: 1
   «key_frame» = false;
   -- bits 1 to 3 of the tag
@@ -404,7 +407,7 @@ keptHeader = record {
   -- the tag alone
   «data_chunk_size» = 3;
   -- bits 5 to 23 of the tag
-  «first_part_size» = 28;
+  «first_part_size» = first;
   -- sizes are a key frame's
   «width» = 0;
   -- likewise
@@ -472,20 +475,20 @@ keptHeader = record {
   «bd_range» = 228;
   -- the whole part of the value
   «bd_value» = 0;
-  -- bits of the next byte: 209 doublings
-  «bd_count» = 7;
+  -- bits of the next byte
+  «bd_count» = count;
   -- bits of the area: the doublings
-  «header_size» = 209;
+  «header_size» = doublings;
   -- the bools written
-  «bools» = 1265;
+  «bools» = bools;
   -- macroblocks across, the last one filled up
   «mb_cols» = 0;
   -- macroblocks down, likewise
   «mb_rows» = 0;
 }
 
-abbrev keptLeft : Parser
-keptLeft = record {
+abbrev keptLeft : List ℕ → Parser
+keptLeft probs = record {
   -- segmentation_enabled L(1); then update_segmentation(): update_mb_segmentation_map L(1), update_segment_feature_data L(1)
   segmentation = record {
     «segmentation_enabled» = true;
@@ -494,7 +497,7 @@ keptLeft = record {
     «segment_feature_mode» = true;
     «quantizer_update_value» = pos 1 ∷ pos 1 ∷ pos 1 ∷ pos 1 ∷ [];
     «lf_update_value» = pos 2 ∷ pos 2 ∷ pos 2 ∷ pos 2 ∷ [];
-    «segment_prob» = 3 ∷ 3 ∷ 3 ∷ [];
+    «segment_prob» = probs;
   };
   -- loop_filter_adj_enable L(1); mode_ref_lf_delta_update L(1); then L(6) and a sign where the flag is set
   «mb_lf_adjust» = record {
@@ -509,23 +512,36 @@ keptLeft = record {
   «mode_probs» = record { «intra_16x16_prob» = 8 ∷ 8 ∷ 8 ∷ 8 ∷ []; «intra_chroma_prob» = 9 ∷ 9 ∷ 9 ∷ [] };
 }
 
--- a frame over a parser, and its answer
+-- the same fields, with the segment probabilities coded after the map: 77, none, 201
+abbrev mapBytes : List ℕ
+mapBytes =
+    0xC1 ∷ 0x03 ∷ 0x00 ∷ 0xD4 ∷ 0x2D ∷ 0x79 ∷ 0xA1 ∷ 0xEE ∷ 0xC4 ∷ 0x36 ∷ 0xD2 ∷ 0xA0 ∷ 0x2D ∷ 0x1C ∷ 0x15 ∷ 0x2F ∷
+    0xA9 ∷ 0x8B ∷ 0x18 ∷ 0x02 ∷ 0x60 ∷ 0xB0 ∷ 0x00 ∷ 0x2A ∷ 0x54 ∷ 0x8A ∷ 0x8F ∷ 0x78 ∷ 0xE8 ∷ 0x41 ∷ 0x7E ∷ 0x80 ∷
+    0x00 ∷ 0x00 ∷ 0x01 ∷ 0x02 ∷ 0x03 ∷ []
+
+-- a frame in a mode over a parser, and its answer
 pub record Example : Type 0 where
+  pub mode : Mode
   pub bytes : List ℕ
   pub over : Parser
   pub answer : Parsed
 
-abbrev accepts : List ℕ → Parser → Header → Parser → Example
-accepts f p h q = record { bytes = f; over = p; answer = record { outcome = Accepted; header = h; parser = q } }
+abbrev accepts : List ℕ → Parser → Header → Parser → Mode → Example
+accepts f p h q md = record { mode = md; bytes = f; over = p; answer = record { outcome = Accepted; header = h; parser = q } }
 
 unfoldable pub examples : List Example
 examples =
     -- everything is coded; of the parser nothing is left
-    accepts keyBytes marked keyHeader keyLeft
+    map (accepts keyBytes marked keyHeader keyLeft) both
     -- neither segmentation nor filter adjustments; eight partitions; probabilities for this frame alone
-    ∷ accepts plainBytes marked plainHeader plainLeft
+    ++ map (accepts plainBytes marked plainHeader plainLeft) both
     -- new segment values with no new map; filter adjustments kept as they were
-    ∷ accepts interBytes fresh interHeader interLeft
-    -- a new map with no new values; filter deltas without their flags, and probabilities, stay as they were
-    ∷ accepts keptBytes marked keptHeader keptLeft
+    ++ map (accepts interBytes fresh interHeader interLeft) both
+    -- a new map with no new values, without the segment probabilities and with them; filter deltas without their flags, and
+    -- probabilities, stay as they were
+    ++ accepts keptBytes marked (keptHeader 28 7 209 1265) (keptLeft (3 ∷ 3 ∷ 3 ∷ [])) Rust
+    ∷ accepts mapBytes marked (keptHeader 30 4 228 1284) (keptLeft (77 ∷ 255 ∷ 201 ∷ [])) Standard
     ∷ []
+  where
+    both : List Mode
+    both = Rust ∷ Standard ∷ []

@@ -14,7 +14,7 @@ use Rattle.vp8_records.specs.Start.{fresh}
 use Rattle.rfc6386.specs.Decoder.{pick}
 use Rattle.rfc6386.specs.Runs.{or}
 use Rattle.rfc6386.specs.Frame.{sum}
-use Rattle.rfc6386.specs.Call.{call, after}
+use Rattle.rfc6386.specs.Call.{Asked, called, after}
 use Rattle.rfc6386_history.specs.Kept.{flagged, groups, all, numbers, kept}
 use Rattle.vp8_records.specs.Shape.{Sized}
 use Rattle.rfc6386_history.specs.History.{anyCutter, since, writes, last}
@@ -133,13 +133,13 @@ module _ (p q : Parser) (s : Sized p) (t : Sized q) where
   numbers-are-all h = same-numbers (ext-getD (pos 0) (numbers p) (numbers q) (how-many p s ∙ sym (how-many q t)) (λ i l. h i))
 
 -- calls keep the shape, so it holds of every parser that calls make of the fresh one
-pub sized-after : (p : Parser) (xs : List (List ℕ)) → Sized p → Sized (after p xs)
+pub sized-after : (p : Parser) (xs : List Asked) → Sized p → Sized (after p xs)
 unfolding after
 sized-after p [] s = s
-sized-after p (x ∷ xs) s = sized-after (call p x .parser) xs (sized-call p x s)
+sized-after p (x ∷ xs) s = sized-after (called p x .parser) xs (sized-call p x s)
 
 -- a parser that keeps the last writers' numbers is the one that the calls leave, and no other
-pub only : (q : Parser) (xs : List (List ℕ)) → Sized q
+pub only : (q : Parser) (xs : List Asked) → Sized q
     → ((i : ℕ) → kept q i ≡ or (last (map (λ f. writes f i) (since xs))) (kept fresh i)) → q ≡ after fresh xs
 only q xs s h = numbers-are-all q (after fresh xs) s (sized-after fresh xs sized-fresh) (λ i. h i ∙ sym (last-writer xs i))
 
@@ -151,10 +151,10 @@ module _ (p : Parser) (vs : List Val) (held : Is Held.the-row p vs) where
   pub held-are-all : (q : Parser) (ws : List Val) → Is Held.the-row q ws → ((i : ℕ) → kept p i ≡ kept q i) → p ≡ q
   held-are-all q ws other = numbers-are-all p q (typed-sized p vs held) (typed-sized q ws other)
 
-  pub held-only : (xs : List (List ℕ)) → ((i : ℕ) → kept p i ≡ or (last (map (λ f. writes f i) (since xs))) (kept fresh i))
+  pub held-only : (xs : List Asked) → ((i : ℕ) → kept p i ≡ or (last (map (λ f. writes f i) (since xs))) (kept fresh i))
       → p ≡ after fresh xs
   held-only xs = only p xs (typed-sized p vs held)
 
-  pub held-writer : (xs : List (List ℕ)) (i : ℕ)
+  pub held-writer : (xs : List Asked) (i : ℕ)
       → kept (after p xs) i ≡ or (last (map (λ f. writes f i) (since xs))) (kept (pick (anyCutter xs) fresh p) i)
   held-writer xs i = last-writer-from p xs i (typed-sized p vs held)

@@ -5,6 +5,7 @@ use mathlib.Core.Bool.{Bool, true, false}
 use mathlib.Core.Option.{none, some}
 use mathlib.Core.List.{List, map}
 use lib.IntN.{ℤ}
+use Rattle.vp8_records.specs.declared.Mode.{Mode}
 use Rattle.vp8_records.specs.declared.Parser.{Parser}
 use Rattle.vp8_records.specs.declared.Parsed.{Parsed}
 use Rattle.vp8_records.specs.declared.Header.{Header}
@@ -12,7 +13,7 @@ use Rattle.vp8_records.specs.Start.{fresh}
 use Rattle.rfc6386.specs.Decoder.{pick}
 use Rattle.rfc6386.specs.Runs.{or}
 use Rattle.rfc6386.specs.Frame.{Opened, shut, opened, chunk, beyond, empty, read, Said, refused, follows, body, inside, decode}
-use Rattle.rfc6386.specs.Call.{headerOf, finish, call, after}
+use Rattle.rfc6386.specs.Call.{Asked, headerOf, finish, call, after}
 use Rattle.rfc6386_history.specs.Refusals.{keyOf, opens}
 use Rattle.rfc6386_history.specs.Kept.{kept}
 use Rattle.vp8_records.specs.Shape.{Sized}
@@ -40,41 +41,41 @@ rest-alone (follows k (read c s none)) p q a b d = refl
 rest-alone (follows k (read c s (some ss))) p q a b d = λ i. headerOf k c s ss (record { coeffs = a i; mv = b i; modes = d i })
 
 -- whatever was kept, a frame's answer is the same but for those
-pub alone : (p q : Parser) (f : List ℕ) → Alike (call p f) (call q f)
+pub alone : (md : Mode) (p q : Parser) (f : List ℕ) → Alike (call md p f) (call md q f)
 unfolding call
-alone p q f = alike (decode f) p q
+alone md p q f = alike (decode md f) p q
 
 -- so the outcome is the same, and every part of the header in which the probabilities have no say
-pub alone-outcome : (p q : Parser) (f : List ℕ) → call p f .outcome ≡ call q f .outcome
-alone-outcome p q f = alone p q f .outcome
+pub alone-outcome : (md : Mode) (p q : Parser) (f : List ℕ) → call md p f .outcome ≡ call md q f .outcome
+alone-outcome md p q f = alone md p q f .outcome
 
-pub alone-part : (p q : Parser) (f : List ℕ) {A : Type 0} (part : Header → A) → Blind part → part (call p f .header)
-    ≡ part (call q f .header)
-alone-part p q f = alone p q f .header
+pub alone-part : (md : Mode) (p q : Parser) (f : List ℕ) {A : Type 0} (part : Header → A) → Blind part → part (call md p f .header)
+    ≡ part (call md q f .header)
+alone-part md p q f = alone md p q f .header
 
 -- as the count of bools
-pub alone-bools : (p q : Parser) (f : List ℕ) → call p f .header .bools ≡ call q f .header .bools
+pub alone-bools : (md : Mode) (p q : Parser) (f : List ℕ) → call md p f .header .bools ≡ call md q f .header .bools
 unfolding headerOf
-alone-bools p q f = alone-part p q f (λ h. h .bools) (λ k c s ss r r′. refl)
+alone-bools md p q f = alone-part md p q f (λ h. h .bools) (λ k c s ss r r′. refl)
 
 -- those are all: where the three groups of probabilities are the same too, so is the header
-pub alone-rest : (p q : Parser) (f : List ℕ) → call p f .header .«coeff_prob» ≡ call q f .header .«coeff_prob»
-    → call p f .header .«mv_prob» ≡ call q f .header .«mv_prob» → call p f .header .«mode_probs» ≡ call q f .header .«mode_probs»
-    → call p f .header ≡ call q f .header
+pub alone-rest : (md : Mode) (p q : Parser) (f : List ℕ) → call md p f .header .«coeff_prob» ≡ call md q f .header .«coeff_prob»
+    → call md p f .header .«mv_prob» ≡ call md q f .header .«mv_prob» → call md p f .header .«mode_probs» ≡ call md q f .header .«mode_probs»
+    → call md p f .header ≡ call md q f .header
 unfolding call
-alone-rest p q f = rest-alone (decode f) p q
+alone-rest md p q f = rest-alone (decode md f) p q
 
 -- and for a key frame the whole header is the same
-pub key-alone : (p q : Parser) (f : List ℕ) → keyOf f ≡ true → call p f .header ≡ call q f .header
+pub key-alone : (md : Mode) (p q : Parser) (f : List ℕ) → keyOf f ≡ true → call md p f .header ≡ call md q f .header
 unfolding call decode
-key-alone p q f h = go (chunk f) (chunk-opens f)
+key-alone md p q f h = go (chunk f) (chunk-opens f)
   where
-    go : (x : Opened) → Opens x (keyOf f) (opens f) → finish (inside x f) p .header ≡ finish (inside x f) q .header
+    go : (x : Opened) → Opens x (keyOf f) (opens f) → finish (inside md x f) p .header ≡ finish (inside md x f) q .header
     go (shut o) e = refl
-    go (opened k) e = ap (λ (a : Parsed). a .header) (forgets-body p q k (body k f) (e .0 ∙ h))
+    go (opened k) e = ap (λ (a : Parsed). a .header) (forgets-body p q k (body md k f) (e .0 ∙ h))
 
 -- a kept number owes nothing to the others
-pub number-alone : (p q : Parser) (xs : List (List ℕ)) (i : ℕ) → Sized p → Sized q → kept p i ≡ kept q i
+pub number-alone : (p q : Parser) (xs : List Asked) (i : ℕ) → Sized p → Sized q → kept p i ≡ kept q i
     → kept (after p xs) i ≡ kept (after q xs) i
 number-alone p q xs i s t h =
     last-writer-from p xs i s

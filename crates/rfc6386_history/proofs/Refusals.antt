@@ -10,6 +10,7 @@ use mathlib.Core.List.{List, [], _∷_, map}
 use lib.Dec.{ltb, eqb}
 use lib.ListN.{length, getD}
 use borrow.Author.Tests.{eqb-true, eq-eqb}
+use Rattle.vp8_records.specs.declared.Mode.{Mode}
 use Rattle.vp8_records.specs.declared.Parser.{Parser}
 use Rattle.vp8_records.specs.declared.Parsed.{Parsed}
 use Rattle.vp8_records.specs.declared.Outcome.{Outcome}
@@ -65,7 +66,7 @@ chunk-opens f = go (tooLong f) (ltb (length f) 3) (keyOf f) (ltb (length f) 6) (
     go false false true false true true = refl
     go false false true false true false = (refl, refl)
 
-module _ (p : Parser) where
+module _ (md : Mode) (p : Parser) where
   -- a header read to its end
   told-read : (k : Chunk) (c : Coded) (s : Snapshot) (n : ℕ) (xs : List ℕ) (first : ℕ)
       → let from = first + 3 * (n - 1) in
@@ -85,15 +86,15 @@ module _ (p : Parser) where
   module _ (f : List ℕ) where
     told-after : (key : Bool) (w h : ℕ)
         → let k = tagged (le3 f 0) key (chunkSize key) w h in
-        Told (finish (follows k (body k f)) p) (afterChunk key f) (base k) (coded key f) p
+        Told (finish (follows k (body md k f)) p) (afterChunk md key f) (base k) (coded md key f) p
     unfolding body headed coded
-    told-after key w h = go (beyondEnd key f) (heldOf key f)
+    told-after key w h = go (beyondEnd key f) (heldOf md key f)
       where
         k : Chunk
         k = tagged (le3 f 0) key (chunkSize key) w h
 
         got : List ℕ → Coded
-        got bytes = decoded key bytes .got
+        got bytes = decoded md key bytes .got
 
         beyondIn : List ℕ → Bool
         beyondIn bytes =
@@ -107,7 +108,7 @@ module _ (p : Parser) where
             (follows k
             (elim a [
               | true ↦ beyond (chunkSize key + firstSize f) (length f)
-              | false ↦ elim bytes [ [] ↦ empty | b ∷ bs ↦ headed k (area key f) (b ∷ bs) (decoded key (b ∷ bs)) ]
+              | false ↦ elim bytes [ [] ↦ empty | b ∷ bs ↦ headed k (area key f) (b ∷ bs) (decoded md key (b ∷ bs)) ]
             ]))
             p)
             (pick a (InvalidPartitionSize (chunkSize key + firstSize f) (length f))
@@ -118,15 +119,15 @@ module _ (p : Parser) where
         go false (b ∷ bs) = told-read k (got (b ∷ bs)) _ (2 ^ got (b ∷ bs) .log2parts) (area key f) (firstSize f)
 
     -- every call
-    pub told : Told (call p f) (outcomeOf f) (baseOf (keyOf f) f) (coded (keyOf f) f) p
+    pub told : Told (call md p f) (outcomeOf md f) (baseOf (keyOf f) f) (coded md (keyOf f) f) p
     unfolding call decode chunk keyChunk outcomeOf
     told = go (tooLong f) (ltb (length f) 3) (keyOf f) (ltb (length f) 6) (rightCode f) (ltb (length f) 10)
       where
         go : (a b key d e g : Bool)
-            → Told (finish (inside (chunkBy f a b key d e g) f) p)
+            → Told (finish (inside md (chunkBy f a b key d e g) f) p)
             (pick a (FrameTooLong (length f))
-            (pick (b || key && (d || e && g)) ChunkTooShort (pick (key && not d && not e) (InvalidStartCode (le3 f 3)) (afterChunk key f))))
-            (baseOf key f) (coded key f) p
+            (pick (b || key && (d || e && g)) ChunkTooShort (pick (key && not d && not e) (InvalidStartCode (le3 f 3)) (afterChunk md key f))))
+            (baseOf key f) (coded md key f) p
         go true b key d e g = refl
         go false true key d e g = refl
         go false false false d e g = told-after false 0 0
@@ -180,38 +181,38 @@ rows f false false false false true g = record { numbers = refl; carries = refl;
 rows f false false false false false true = record { numbers = refl; carries = refl; resetting = refl }
 rows f false false false false false false = record { numbers = refl; carries = refl; resetting = refl }
 
-rows-of : (f : List ℕ)
-    → Rows f (tooLong f) (tooShort f) (otherCode f) (beyondEnd (keyOf f) f) (isEmpty (heldOf (keyOf f) f)) (sizesBeyond (keyOf f) f)
-rows-of f = rows f _ _ _ _ _ _
+rows-of : (md : Mode) (f : List ℕ)
+    → Rows f (tooLong f) (tooShort f) (otherCode f) (beyondEnd (keyOf f) f) (isEmpty (heldOf md (keyOf f) f)) (sizesBeyond md (keyOf f) f)
+rows-of md f = rows f _ _ _ _ _ _
 
-pub resets-opened : (f : List ℕ) → opens f && keyOf f ≡ resets (outcomeOf f) (keyOf f)
+pub resets-opened : (md : Mode) (f : List ℕ) → opens f && keyOf f ≡ resets (outcomeOf md f) (keyOf f)
 unfolding outcomeOf
-resets-opened f = rows-of f .resetting
+resets-opened md f = rows-of md f .resetting
 
-module _ (p : Parser) (f : List ℕ) where
+module _ (md : Mode) (p : Parser) (f : List ℕ) where
   -- the columns "Exactly when" and "Carries"
-  pub outcome-is : call p f .outcome ≡ outcomeOf f
-  outcome-is = ap (λ (a : Parsed). a .outcome) (told p f)
+  pub outcome-is : call md p f .outcome ≡ outcomeOf md f
+  outcome-is = ap (λ (a : Parsed). a .outcome) (told md p f)
 
   -- the column "State left"
-  pub left-is : call p f .parser ≡ left (outcomeOf f) (baseOf (keyOf f) f) (coded (keyOf f) f) p
-  left-is = ap (λ (a : Parsed). a .parser) (told p f)
+  pub left-is : call md p f .parser ≡ left (outcomeOf md f) (baseOf (keyOf f) f) (coded md (keyOf f) f) p
+  left-is = ap (λ (a : Parsed). a .parser) (told md p f)
 
   -- the outcome o with what the row of q leaves
   abbrev said : Outcome → Outcome → Parsed
-  said o q = answer o (headOf q (call p f .header)) (left q (baseOf (keyOf f) f) (coded (keyOf f) f) p)
+  said o q = answer o (headOf q (call md p f .header)) (left q (baseOf (keyOf f) f) (coded md (keyOf f) f) p)
 
-  row : (o : Outcome) → call p f .outcome ≡ o → call p f ≡ said (carrying f o) o
+  row : (o : Outcome) → call md p f .outcome ≡ o → call md p f ≡ said (carrying f o) o
   unfolding outcomeOf
   row o e =
-      let is : outcomeOf f ≡ o = sym outcome-is ∙ e in
-      told p f ∙ ap (λ (x : Outcome). said x (outcomeOf f)) (rows-of f .carries) ∙ ap (λ (x : Outcome). said (carrying f x) x) is
+      let is : outcomeOf md f ≡ o = sym outcome-is ∙ e in
+      told md p f ∙ ap (λ (x : Outcome). said x (outcomeOf md f)) (rows-of md f .carries) ∙ ap (λ (x : Outcome). said (carrying f x) x) is
 
   -- every refusal has the blank header
-  pub refused-blank : 0 < numberOf (call p f .outcome) → call p f .header ≡ blank
-  refused-blank h = ap (λ (a : Parsed). a .header) (told p f) ∙ go (outcomeOf f) (rw outcome-is at h)
+  pub refused-blank : 0 < numberOf (call md p f .outcome) → call md p f .header ≡ blank
+  refused-blank h = ap (λ (a : Parsed). a .header) (told md p f) ∙ go (outcomeOf md f) (rw outcome-is at h)
     where
-      go : (o : Outcome) → 0 < numberOf o → headOf o (call p f .header) ≡ blank
+      go : (o : Outcome) → 0 < numberOf o → headOf o (call md p f .header) ≡ blank
       go Accepted n = absurd (omega arith)
       go ChunkTooShort n = refl
       go (InvalidStartCode code) n = refl
@@ -220,8 +221,8 @@ module _ (p : Parser) (f : List ℕ) where
       go EndOfHeader n = refl
       go (FrameTooLong m) n = refl
 
-  refused : (o : Outcome) → 0 < numberOf o → call p f .outcome ≡ o
-      → Refused (call p f) (numberOf o) (carriedBy (carrying f o)) (left o (baseOf (keyOf f) f) (coded (keyOf f) f) p)
+  refused : (o : Outcome) → 0 < numberOf o → call md p f .outcome ≡ o
+      → Refused (call md p f) (numberOf o) (carriedBy (carrying f o)) (left o (baseOf (keyOf f) f) (coded md (keyOf f) f) p)
   refused o n e = record {
     number = ap numberOf e;
     carries = ap (λ (a : Parsed). carriedBy (a .outcome)) (row o e);
@@ -230,38 +231,38 @@ module _ (p : Parser) (f : List ℕ) where
   }
 
   -- what each refusal carries and leaves, row by row
-  pub refused-6 : (n : ℕ) → call p f .outcome ≡ FrameTooLong n → Refused (call p f) 6 (length f ∷ []) p
+  pub refused-6 : (n : ℕ) → call md p f .outcome ≡ FrameTooLong n → Refused (call md p f) 6 (length f ∷ []) p
   refused-6 n = refused (FrameTooLong n) (omega arith)
 
-  pub refused-1 : call p f .outcome ≡ ChunkTooShort → Refused (call p f) 1 [] p
+  pub refused-1 : call md p f .outcome ≡ ChunkTooShort → Refused (call md p f) 1 [] p
   refused-1 = refused ChunkTooShort (omega arith)
 
-  pub refused-2 : (code : ℕ) → call p f .outcome ≡ InvalidStartCode code → Refused (call p f) 2 (le3 f 3 ∷ []) p
+  pub refused-2 : (code : ℕ) → call md p f .outcome ≡ InvalidStartCode code → Refused (call md p f) 2 (le3 f 3 ∷ []) p
   refused-2 code = refused (InvalidStartCode code) (omega arith)
 
-  pub refused-3 : (end n : ℕ) → call p f .outcome ≡ InvalidPartitionSize end n
-      → Refused (call p f) 3 ((chunkSize (keyOf f) + firstSize f) ∷ length f ∷ []) (baseOf (keyOf f) f p)
+  pub refused-3 : (end n : ℕ) → call md p f .outcome ≡ InvalidPartitionSize end n
+      → Refused (call md p f) 3 ((chunkSize (keyOf f) + firstSize f) ∷ length f ∷ []) (baseOf (keyOf f) f p)
   refused-3 end n = refused (InvalidPartitionSize end n) (omega arith)
 
-  pub refused-4 : call p f .outcome ≡ EmptyArea → Refused (call p f) 4 [] (baseOf (keyOf f) f (cleared p))
+  pub refused-4 : call md p f .outcome ≡ EmptyArea → Refused (call md p f) 4 [] (baseOf (keyOf f) f (cleared p))
   refused-4 = refused EmptyArea (omega arith)
 
-  pub refused-5 : call p f .outcome ≡ EndOfHeader → Refused (call p f) 5 [] (apply (coded (keyOf f) f) (baseOf (keyOf f) f p))
+  pub refused-5 : call md p f .outcome ≡ EndOfHeader → Refused (call md p f) 5 [] (apply (coded md (keyOf f) f) (baseOf (keyOf f) f p))
   refused-5 = refused EndOfHeader (omega arith)
 
   -- and what an accepted frame leaves
-  pub accepted-leaves : call p f .outcome ≡ Accepted → call p f .parser ≡ apply (coded (keyOf f) f) (baseOf (keyOf f) f p)
+  pub accepted-leaves : call md p f .outcome ≡ Accepted → call md p f .parser ≡ apply (coded md (keyOf f) f) (baseOf (keyOf f) f p)
   accepted-leaves e = ap (λ (a : Parsed). a .parser) (row Accepted e)
 
-  decided : (n : ℕ) (b : Bool) → eqb (numberOf (outcomeOf f)) n ≡ b → (numberOf (call p f .outcome) ≡ n) ↔ (b ≡ true)
+  decided : (n : ℕ) (b : Bool) → eqb (numberOf (outcomeOf md f)) n ≡ b → (numberOf (call md p f .outcome) ≡ n) ↔ (b ≡ true)
   decided n b e = rw outcome-is (λ h. sym e ∙ eq-eqb _ n h, λ h. eqb-true _ n (e ∙ h))
 
   -- every refusal has its one cause
-  pub exactly : Exactly p f
+  pub exactly : Exactly md p f
   unfolding outcomeOf
   exactly =
       let at : ℕ → List Bool → Bool = λ i bs. getD bs i false in
-      let m = rows-of f .numbers in
+      let m = rows-of md f .numbers in
       record {
         six = decided 6 _ (ap (at 0) m);
         one = decided 1 _ (ap (at 1) m);

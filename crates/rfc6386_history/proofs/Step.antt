@@ -10,6 +10,7 @@ use lib.Dec.{ltb, lit≤}
 use lib.IntN.{ℤ, pos}
 use lib.ListN.{length, getD}
 use borrow.Author.Tests.{ltb-true, lt-ltb}
+use Rattle.vp8_records.specs.declared.Mode.{Mode}
 use Rattle.vp8_records.specs.declared.Parser.{Parser}
 use Rattle.vp8_records.specs.declared.Outcome.{Outcome}
 use Rattle.vp8_records.specs.declared.Outcome.the-variants.{Accepted, ChunkTooShort, InvalidStartCode, InvalidPartitionSize, EmptyArea, EndOfHeader, FrameTooLong}
@@ -19,7 +20,7 @@ use Rattle.rfc6386.specs.Decoder.{pick}
 use Rattle.rfc6386.specs.Runs.{or, over}
 use Rattle.rfc6386.specs.Coded.{Coded}
 use Rattle.rfc6386.specs.Frame.{Chunk, keyed, Opened, shut, opened, chunk, Body, beyond, empty, read, body, follows, inside, decode}
-use Rattle.rfc6386.specs.Call.{apply, cleared, reset, finish, call}
+use Rattle.rfc6386.specs.Call.{Asked, apply, cleared, reset, finish, call, called}
 use Rattle.rfc6386.specs.Peek.{looked, peek, keySeen}
 use Rattle.rfc6386.proofs.Peek.{peek-chunk}
 use Rattle.rfc6386_history.specs.Refusals.{keyOf, rightCode, tooLong, opens, coded, outcomeOf, baseOf, left}
@@ -66,17 +67,21 @@ forgets-body p q k empty h = rw h
 forgets-body p q k (read c s ss) h = rw h
 
 -- a cutter's answer and state are the same, whatever was kept
-pub forgets : (p q : Parser) (f : List ℕ) → cutter f ≡ true → call p f ≡ call q f
+pub forgets : (p q : Parser) (x : Asked) → cutter (x .frame) ≡ true → called p x ≡ called q x
 unfolding call decode
-forgets p q f h = go (chunk f) (opens f) (chunk-opens f) (sym (cutter-opens f) ∙ h)
+forgets p q x h = go (chunk f) (opens f) (chunk-opens f) (sym (cutter-opens f) ∙ h)
   where
-    go : (x : Opened) (o : Bool) → Opens x (keyOf f) o → o && keyOf f ≡ true → finish (inside x f) p ≡ finish (inside x f) q
+    f : List ℕ
+    f = x .frame
+
+    go : (y : Opened) (o : Bool) → Opens y (keyOf f) o → o && keyOf f ≡ true
+        → finish (inside (x .mode) y f) p ≡ finish (inside (x .mode) y f) q
     go (shut o) b e h = absurd (false≢true (rw e at h))
-    go (opened k) b e h = forgets-body p q k (body k f) (e .0 ∙ (rw (e .1) at h))
+    go (opened k) b e h = forgets-body p q k (body (x .mode) k f) (e .0 ∙ (rw (e .1) at h))
 
 -- what is left starts from the fresh parser just after a cutter
-cutter-resets : (f : List ℕ) → cutter f ≡ resets (outcomeOf f) (keyOf f)
-cutter-resets f = cutter-opens f ∙ resets-opened f
+cutter-resets : (md : Mode) (f : List ℕ) → cutter f ≡ resets (outcomeOf md f) (keyOf f)
+cutter-resets md f = cutter-opens f ∙ resets-opened md f
 
 sized-reset : (k : Chunk) → Sized (reset k)
 sized-reset k = sized-fresh
@@ -95,8 +100,11 @@ sized-left EndOfHeader key f c p s = sized-apply c (baseOf key f p) (sized-base 
 sized-left Accepted key f c p s = sized-apply c (baseOf key f p) (sized-base key f p s)
 
 -- a call keeps the shape
-pub sized-call : (p : Parser) (f : List ℕ) → Sized p → Sized (call p f .parser)
-sized-call p f s = rw (left-is p f) (sized-left (outcomeOf f) (keyOf f) f (coded (keyOf f) f) p s)
+pub sized-call : (p : Parser) (x : Asked) → Sized p → Sized (called p x .parser)
+sized-call p x s =
+    let md = x .mode in
+    let f = x .frame in
+    rw (left-is md p f) (sized-left (outcomeOf md f) (keyOf f) f (coded md (keyOf f) f) p s)
 
 -- us, at most as many as the numbers of p, written over them give those of q
 record Moves (us : List (Option ℤ)) (p q : Parser) : Type 0 where
@@ -130,12 +138,14 @@ moves EndOfHeader key f c p s = moves-all key f c p s
 moves Accepted key f c p s = moves-all key f c p s
 
 -- a number after a call: what the frame writes to it, or else what the frame started from
-pub writes-one : (p : Parser) (f : List ℕ) (i : ℕ) → Sized p
-    → kept (call p f .parser) i ≡ or (writes f i) (kept (pick (cutter f) fresh p) i)
+pub writes-one : (p : Parser) (x : Asked) (i : ℕ) → Sized p
+    → kept (called p x .parser) i ≡ or (writes x i) (kept (pick (cutter (x .frame)) fresh p) i)
 unfolding kept writes
-writes-one p f i s =
-    let us = wrote (outcomeOf f) (keyOf f) (coded (keyOf f) f) in
-    let from = pick (resets (outcomeOf f) (keyOf f)) fresh p in
-    let m = moves (outcomeOf f) (keyOf f) f (coded (keyOf f) f) p s in
-    rw (left-is p f, cutter-resets f)
+writes-one p x i s =
+    let md = x .mode in
+    let f = x .frame in
+    let us = wrote (outcomeOf md f) (keyOf f) (coded md (keyOf f) f) in
+    let from = pick (resets (outcomeOf md f) (keyOf f)) fresh p in
+    let m = moves (outcomeOf md f) (keyOf f) f (coded md (keyOf f) f) p s in
+    rw (left-is md p f, cutter-resets md f)
     (ap (λ (ns : List ℤ). getD ns i (pos 0)) (sym (m .is)) ∙ getD-over us (numbers from) i (pos 0) (m .fits))

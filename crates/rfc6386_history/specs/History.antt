@@ -13,6 +13,7 @@ use Rattle.vp8_records.specs.declared.Outcome.the-variants.{Accepted, ChunkTooS
 use Rattle.rfc6386.specs.Decoder.{pick}
 use Rattle.rfc6386.specs.Runs.{or}
 use Rattle.rfc6386.specs.Coded.{Coded}
+use Rattle.rfc6386.specs.Call.{Asked}
 use Rattle.rfc6386_history.specs.Refusals.{keyOf, rightCode, tooLong, coded, outcomeOf}
 use Rattle.rfc6386_history.specs.Kept.{flagged, all}
 
@@ -20,24 +21,24 @@ use Rattle.rfc6386_history.specs.Kept.{flagged, all}
 abbrev pub cutter : List ℕ → Bool
 cutter f = keyOf f && not (tooLong f) && not (ltb (length f) 10) && rightCode f
 
-unfoldable pub anyCutter : List (List ℕ) → Bool
+unfoldable pub anyCutter : List Asked → Bool
 anyCutter [] = false
-anyCutter (f ∷ fs) = cutter f || anyCutter fs
+anyCutter (x ∷ xs) = cutter (x .frame) || anyCutter xs
 
--- the frames since the latest cutter, that one too; all of them where there is none
-unfoldable pub since : List (List ℕ) → List (List ℕ)
+-- the calls since the latest cutter, that one too; all of them where there is none
+unfoldable pub since : List Asked → List Asked
 since [] = []
-since (f ∷ fs) = pick (anyCutter fs) (since fs) (f ∷ fs)
+since (x ∷ xs) = pick (anyCutter xs) (since xs) (x ∷ xs)
 
--- the frames before it; none where there is none
-unfoldable pub before : List (List ℕ) → List (List ℕ)
+-- the calls before it; none where there is none
+unfoldable pub before : List Asked → List Asked
 before [] = []
-before (f ∷ fs) = pick (anyCutter fs) (f ∷ before fs) []
+before (x ∷ xs) = pick (anyCutter xs) (x ∷ before xs) []
 
--- a run of frames that begins with a cutter and has no other
-abbrev pub Latest : List (List ℕ) → Type 0
+-- a run of calls that begins with a cutter and has no other
+abbrev pub Latest : List Asked → Type 0
 Latest [] = ⊥
-Latest (f ∷ fs) = (cutter f ≡ true) × (anyCutter fs ≡ false)
+Latest (x ∷ xs) = (cutter (x .frame) ≡ true) × (anyCutter xs ≡ false)
 
 -- n of them; nothing is written to a group that is not coded
 unfoldable pub fit : {A : Type 0} → ℕ → List (Option A) → List (Option A)
@@ -83,9 +84,12 @@ wrote (InvalidStartCode code) key c = []
 wrote ChunkTooShort key c = []
 wrote (FrameTooLong n) key c = []
 
--- what it writes to number i
-unfoldable pub writes : List ℕ → ℕ → Option ℤ
-writes f i = getD (wrote (outcomeOf f) (keyOf f) (coded (keyOf f) f)) i none
+-- what a call writes to number i
+unfoldable pub writes : Asked → ℕ → Option ℤ
+writes x i =
+    let md = x .mode in
+    let f = x .frame in
+    getD (wrote (outcomeOf md f) (keyOf f) (coded md (keyOf f) f)) i none
 
 -- the last that is written
 unfoldable pub last : {A : Type 0} → List (Option A) → Option A

@@ -7,6 +7,7 @@ use mathlib.Core.Bool.{Bool, true, false, not, _&&_, _||_}
 use mathlib.Core.List.{List, [], _∷_}
 use lib.Dec.{leb, ltb, eqb}
 use lib.ListN.{length, drop}
+use Rattle.vp8_records.specs.declared.Mode.{Mode}
 use Rattle.vp8_records.specs.declared.Parser.{Parser}
 use Rattle.vp8_records.specs.declared.Header.{Header}
 use Rattle.vp8_records.specs.declared.Outcome.{Outcome}
@@ -54,44 +55,45 @@ firstSize f = le3 f 0 / 32
 abbrev pub beyondEnd : Bool → List ℕ → Bool
 beyondEnd key f = ltb (length f) (chunkSize key + firstSize f)
 
--- 4: nothing to read in the area
+-- 4: nothing to read
 abbrev pub isEmpty : List ℕ → Bool
 isEmpty [] = true
 isEmpty (x ∷ xs) = false
 
 -- the bytes that the decoder runs over
-abbrev pub heldOf : Bool → List ℕ → List ℕ
-heldOf key f = held (firstSize f) (area key f)
+abbrev pub heldOf : Mode → Bool → List ℕ → List ℕ
+heldOf md key f = held md (firstSize f) (area key f)
 
 -- the coded fields, read over them
-unfoldable pub coded : Bool → List ℕ → Coded
-coded key f = decoded key (heldOf key f) .got
+unfoldable pub coded : Mode → Bool → List ℕ → Coded
+coded md key f = decoded md key (heldOf md key f) .got
 
-abbrev pub partitions : Bool → List ℕ → ℕ
-partitions key f = 2 ^ coded key f .log2parts
+abbrev pub partitions : Mode → Bool → List ℕ → ℕ
+partitions md key f = 2 ^ coded md key f .log2parts
 
 -- the size bytes' end in the area, and the sizes that they code
-abbrev pub sizesEnd : Bool → List ℕ → ℕ
-sizesEnd key f = firstSize f + 3 * (partitions key f - 1)
+abbrev pub sizesEnd : Mode → Bool → List ℕ → ℕ
+sizesEnd md key f = firstSize f + 3 * (partitions md key f - 1)
 
-abbrev pub codedOf : Bool → List ℕ → List ℕ
-codedOf key f = codedSizes (partitions key f - 1) (area key f) (firstSize f)
+abbrev pub codedOf : Mode → Bool → List ℕ → List ℕ
+codedOf md key f = codedSizes (partitions md key f - 1) (area key f) (firstSize f)
 
 -- 5: first_part_size + 3(n − 1), or that plus the n − 1 sizes, > area
-abbrev pub sizesBeyond : Bool → List ℕ → Bool
-sizesBeyond key f = ltb (length (area key f)) (sizesEnd key f) || ltb (length (area key f)) (sizesEnd key f + sum (codedOf key f))
+abbrev pub sizesBeyond : Mode → Bool → List ℕ → Bool
+sizesBeyond md key f =
+    ltb (length (area key f)) (sizesEnd md key f) || ltb (length (area key f)) (sizesEnd md key f + sum (codedOf md key f))
 
 -- 3, 4 and 5, with what they carry
-abbrev pub afterChunk : Bool → List ℕ → Outcome
-afterChunk key f =
+abbrev pub afterChunk : Mode → Bool → List ℕ → Outcome
+afterChunk md key f =
     pick (beyondEnd key f) (InvalidPartitionSize (chunkSize key + firstSize f) (length f))
-    (pick (isEmpty (heldOf key f)) EmptyArea (pick (sizesBeyond key f) EndOfHeader Accepted))
+    (pick (isEmpty (heldOf md key f)) EmptyArea (pick (sizesBeyond md key f) EndOfHeader Accepted))
 
 -- all six, in order of checking
-unfoldable pub outcomeOf : List ℕ → Outcome
-outcomeOf f =
+unfoldable pub outcomeOf : Mode → List ℕ → Outcome
+outcomeOf md f =
     pick (tooLong f) (FrameTooLong (length f))
-    (pick (tooShort f) ChunkTooShort (pick (otherCode f) (InvalidStartCode (le3 f 3)) (afterChunk (keyOf f) f)))
+    (pick (tooShort f) ChunkTooShort (pick (otherCode f) (InvalidStartCode (le3 f 3)) (afterChunk md (keyOf f) f)))
 
 -- the state that a key frame or another starts from, once its chunk is valid: reset if key, else unchanged
 abbrev pub baseOf : Bool → List ℕ → Parser → Parser
@@ -129,13 +131,13 @@ abbrev pub opens : List ℕ → Bool
 opens f = not (tooLong f || tooShort f || otherCode f)
 
 -- each number exactly when its row's cause holds and no earlier row's does
-pub record Exactly (p : Parser) (f : List ℕ) : Type 0 where
-  pub six : (numberOf (call p f .outcome) ≡ 6) ↔ (tooLong f ≡ true)
-  pub one : (numberOf (call p f .outcome) ≡ 1) ↔ (not (tooLong f) && tooShort f ≡ true)
-  pub two : (numberOf (call p f .outcome) ≡ 2) ↔ (not (tooLong f || tooShort f) && otherCode f ≡ true)
-  pub three : (numberOf (call p f .outcome) ≡ 3) ↔ (opens f && beyondEnd (keyOf f) f ≡ true)
-  pub four : (numberOf (call p f .outcome) ≡ 4) ↔ (opens f && not (beyondEnd (keyOf f) f) && isEmpty (heldOf (keyOf f) f) ≡ true)
-  pub five : (numberOf (call p f .outcome) ≡ 5)
-      ↔ (opens f && not (beyondEnd (keyOf f) f || isEmpty (heldOf (keyOf f) f)) && sizesBeyond (keyOf f) f ≡ true)
-  pub accepted : (numberOf (call p f .outcome) ≡ 0)
-      ↔ (opens f && not (beyondEnd (keyOf f) f || isEmpty (heldOf (keyOf f) f) || sizesBeyond (keyOf f) f) ≡ true)
+pub record Exactly (md : Mode) (p : Parser) (f : List ℕ) : Type 0 where
+  pub six : (numberOf (call md p f .outcome) ≡ 6) ↔ (tooLong f ≡ true)
+  pub one : (numberOf (call md p f .outcome) ≡ 1) ↔ (not (tooLong f) && tooShort f ≡ true)
+  pub two : (numberOf (call md p f .outcome) ≡ 2) ↔ (not (tooLong f || tooShort f) && otherCode f ≡ true)
+  pub three : (numberOf (call md p f .outcome) ≡ 3) ↔ (opens f && beyondEnd (keyOf f) f ≡ true)
+  pub four : (numberOf (call md p f .outcome) ≡ 4) ↔ (opens f && not (beyondEnd (keyOf f) f) && isEmpty (heldOf md (keyOf f) f) ≡ true)
+  pub five : (numberOf (call md p f .outcome) ≡ 5)
+      ↔ (opens f && not (beyondEnd (keyOf f) f || isEmpty (heldOf md (keyOf f) f)) && sizesBeyond md (keyOf f) f ≡ true)
+  pub accepted : (numberOf (call md p f .outcome) ≡ 0)
+      ↔ (opens f && not (beyondEnd (keyOf f) f || isEmpty (heldOf md (keyOf f) f) || sizesBeyond md (keyOf f) f) ≡ true)

@@ -1,35 +1,37 @@
-// Reads frames from standard input (`vp8_show::input`), parses them with one parser, and prints a line for each (`vp8_show::dump`). A frame
-// that is only to be looked at leaves the parser alone. A bad record gets a line that says what is wrong, and ends the run.
+// Reads frames from standard input (`vp8_show::input`), parses them with one parser in the mode that was asked for last, at first the
+// Rust's, and prints a line for each (`vp8_show::dump`). A frame that is only to be looked at leaves the parser alone. A bad record gets
+// a line that says what is wrong, and ends the run.
+use vp8_records::Mode;
 use vp8_records::Parser;
 use vp8_show::input::Came;
 
-// The parser, whether the next frame is only looked at, and whether to go on.
+// The parser, the mode, whether the next frame is only looked at, and whether to go on.
 struct Run {
     parser: Parser,
+    mode: Mode,
     looks: bool,
     more: bool,
 }
 
-fn fresh(looks: bool) -> Run {
+fn fresh(mode: Mode, looks: bool) -> Run {
     let parser = Parser::new();
     Run {
         parser,
+        mode,
         looks,
         more: true,
     }
 }
 
-fn ended(parser: Parser) -> Run {
-    Run {
-        parser,
-        looks: false,
-        more: false,
-    }
+fn ended(run: Run) -> Run {
+    let mut last = run;
+    last.more = false;
+    last
 }
 
-fn wrong(parser: Parser, word: &[u8]) -> Run {
+fn wrong(run: Run, word: &[u8]) -> Run {
     lines::say(word);
-    ended(parser)
+    ended(run)
 }
 
 // The text as a line; false where not all could be written.
@@ -39,61 +41,71 @@ fn line(out: &mut [u8], end: usize) -> bool {
 }
 
 // A frame and its line.
-fn frame(parser: Parser, bytes: &[u8], out: &mut [u8]) -> Run {
-    let parsed = vp8_parser::parse(parser, bytes);
+fn frame(run: Run, bytes: &[u8], out: &mut [u8]) -> Run {
+    let mode = run.mode;
+    let parsed = vp8_parser::parse_in(run.parser, bytes, mode);
     let end = vp8_show::dump::line(out, 0, parsed);
     let more = line(out, end);
     let parser = parsed.parser;
     Run {
         parser,
+        mode,
         looks: false,
         more,
     }
 }
 
 // A frame that is only looked at, and its line.
-fn look(parser: Parser, bytes: &[u8], out: &mut [u8]) -> Run {
+fn look(run: Run, bytes: &[u8], out: &mut [u8]) -> Run {
     let end = vp8_show::dump::look(out, 0, vp8_parser::peek(bytes));
-    let more = line(out, end);
-    Run {
-        parser,
-        looks: false,
-        more,
-    }
+    let mut after = run;
+    after.looks = false;
+    after.more = line(out, end);
+    after
+}
+
+// From here on in this mode.
+fn switched(run: Run, mode: Mode) -> Run {
+    let mut after = run;
+    after.mode = mode;
+    after
+}
+
+// The next frame is only looked at.
+fn looking(run: Run) -> Run {
+    let mut after = run;
+    after.looks = true;
+    after
 }
 
 fn record(run: Run, buffer: &mut [u8], out: &mut [u8]) -> Run {
-    let parser = run.parser;
     let taken = vp8_show::input::take(buffer);
     let came = taken.came;
     let count = taken.count;
     match came {
         Came::Frame => {
             if run.looks {
-                return look(parser, &buffer[..count], out);
+                return look(run, &buffer[..count], out);
             }
-            frame(parser, &buffer[..count], out)
+            frame(run, &buffer[..count], out)
         }
-        Came::Fresh => fresh(run.looks),
-        Came::Look => Run {
-            parser,
-            looks: true,
-            more: true,
-        },
+        Came::Fresh => fresh(run.mode, run.looks),
+        Came::In(mode) => switched(run, mode),
+        Came::Look => looking(run),
         Came::End => {
             if run.looks {
-                return wrong(parser, b"cut short");
+                return wrong(run, b"cut short");
             }
-            ended(parser)
+            ended(run)
         }
-        Came::TooLarge => wrong(parser, b"too large"),
-        Came::CutShort => wrong(parser, b"cut short"),
+        Came::TooLarge => wrong(run, b"too large"),
+        Came::CutShort => wrong(run, b"cut short"),
     }
 }
 
 // Nothing says that the input ends, so the loop counts down from a number that no run uses up.
 fn records(buffer: &mut [u8], out: &mut [u8]) {
-    let mut run = fresh(false);
+    let mut run = fresh(Mode::Rust, false);
     let mut left = u64::MAX;
     while left > 0 && run.more {
         run = record(run, buffer, out);

@@ -4,6 +4,7 @@ use mathlib.Core.Path.{_≡_}
 use mathlib.Core.List.{List}
 use Rattle.vp8_records.specs.declared.CoeffProbs.{CoeffProbs}
 use Rattle.vp8_records.specs.declared.MbLfAdjustments.{MbLfAdjustments}
+use Rattle.vp8_records.specs.declared.Mode.{Mode}
 use Rattle.vp8_records.specs.declared.MvProbs.{MvProbs}
 use Rattle.vp8_records.specs.declared.Segmentation.{Segmentation}
 use Rattle.rfc6386.specs.Reads.{make}
@@ -22,10 +23,10 @@ use Rattle.vp8_fields.specs.declared.coefficients.CoeffRead.{CoeffRead}
 use Rattle.vp8_fields.specs.declared.motion.MvRead.{MvRead}
 
 module _ {area : List ℕ} {d : BoolDecoder} where
-  pub update-segmentation : (seg : Segmentation) {r q : SegmentationRead}
-      → Ran (make (λ c. segmented c seg) segments) area d (r .segmentation) (r .dec) 99
-      → Ran (make (λ c. segmented c seg) segments) area d (q .segmentation) (q .dec) 99 → r ≡ q
-  update-segmentation seg = same-read (λ v e. record { segmentation = v; dec = e })
+  pub update-segmentation : (md : Mode) (seg : Segmentation) {r q : SegmentationRead}
+      → Ran (make (λ c. segmented c seg) (segments md)) area d (r .segmentation) (r .dec) 99
+      → Ran (make (λ c. segmented c seg) (segments md)) area d (q .segmentation) (q .dec) 99 → r ≡ q
+  update-segmentation md seg = same-read (λ v e. record { segmentation = v; dec = e })
 
   pub parse-mb-lf-adjustments : (adj : MbLfAdjustments) {r q : AdjustmentsRead}
       → Ran (make (λ c. adjusted c adj) deltas) area d (r .«mb_lf_adjust») (r .dec) 66

@@ -4,6 +4,7 @@ use crate::arrays::sints_or;
 use crate::modes::ThreeBytes;
 use bool_decoder::BoolDecoder;
 use bool_decoder::reads::flag_if;
+use vp8_records::Mode;
 use vp8_records::Segmentation;
 ghost use mathlib.Core.Path.{_≡_};
 ghost use mathlib.Core.List.{[]};
@@ -67,24 +68,32 @@ fn feature_data_if(area: &[u8], dec: BoolDecoder, on: bool, seg: Segmentation) -
     }
 }
 
-// Whether the probabilities are coded.
-fn probs_coded(map: bool, feature: bool) -> bool
-    ensures { λ r. ⌜ r ≡ mapped map feature ⌝ }
+// Whether the probabilities are coded: where the map is; to the Rust only where the feature data are too.
+fn probs_coded(mode: Mode, map: bool, feature: bool) -> bool
+    ensures { λ r. ⌜ r ≡ mapped mode map feature ⌝ }
 {
-    map && feature
+    match mode {
+        Mode::Rust => map && feature,
+        Mode::Standard => map,
+    }
 }
 
 // update_segmentation() of section 19.2.
-pub fn update_segmentation(area: &[u8], dec: BoolDecoder, seg: Segmentation) -> SegmentationRead
+pub fn update_segmentation(
+    area: &[u8],
+    dec: BoolDecoder,
+    seg: Segmentation,
+    mode: Mode,
+) -> SegmentationRead
     requires { ⌜ Good (now area) dec 99 ⌝ }
-    ensures { λ r. ⌜ Ran (make (λ c. segmented c seg) segments) (now (area .entry)) dec (r .segmentation) (r .dec) 99 ⌝ }
+    ensures { λ r. ⌜ Ran (make (λ c. segmented c seg) (segments mode)) (now (area .entry)) dec (r .segmentation) (r .dec) 99 ⌝ }
 {
     let enabled = dec.read_flag(area);
     let map = flag_if(area, enabled.dec, enabled.bit);
     let feature = flag_if(area, map.dec, enabled.bit);
     let features = feature_data_if(area, feature.dec, feature.bit, seg);
     let old = seg.segment_prob;
-    let coded = probs_coded(map.bit, feature.bit);
+    let coded = probs_coded(mode, map.bit, feature.bit);
     let probs = segment_probs_if(area, features.dec, coded, old);
     let segment_prob = probs.values;
     let mut segmentation = features.segmentation;

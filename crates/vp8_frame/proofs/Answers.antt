@@ -6,6 +6,7 @@ use mathlib.Core.Path.{_≡_, refl, ap, sym, _∙_}
 use mathlib.Core.List.{List, []}
 use lib.ListN.{length}
 use Rattle.vp8_records.specs.declared.Header.{Header}
+use Rattle.vp8_records.specs.declared.Mode.{Mode}
 use Rattle.vp8_records.specs.declared.Parser.{Parser}
 use Rattle.vp8_records.specs.declared.Outcome.{Outcome}
 use Rattle.vp8_records.specs.declared.Outcome.the-variants.{Accepted, ChunkTooShort, InvalidStartCode, InvalidPartitionSize, EmptyArea, EndOfHeader, FrameTooLong}
@@ -26,14 +27,14 @@ empty EmptyArea f h = refl
 empty EndOfHeader f h = refl
 empty (FrameTooLong length) f h = refl
 
-module _ {p : Parser} {f : List ℕ} {o : Outcome} {h : Header} {s : List ℕ} {q : Parser} (a : Framed p f o h s q) where
+module _ {md : Mode} {p : Parser} {f : List ℕ} {o : Outcome} {h : Header} {s : List ℕ} {q : Parser} (a : Framed md p f o h s q) where
   pub accepted-whole : o ≡ Accepted → (s ≡ f) × (lengthOf h ≡ length s)
   accepted-whole e =
-      let c : call p f .outcome ≡ Accepted = sym (a .says) ∙ e in
+      let c : call md p f .outcome ≡ Accepted = sym (a .says) ∙ e in
       let whole : s ≡ f = a .refers ∙ ap (λ (x : Outcome). viewed x f) c in
-      (whole, ap lengthOf (a .reads) ∙ length-is p f c ∙ ap length (sym whole))
+      (whole, ap lengthOf (a .reads) ∙ length-is md p f c ∙ ap length (sym whole))
 
   pub refused-empty : 0 < numberOf o → (s ≡ []) × (h ≡ blank)
   refused-empty z =
-      let c : 0 < numberOf (call p f .outcome) = rw (a .says) at z in
-      (a .refers ∙ empty (call p f .outcome) f c, a .reads ∙ refused-blank p f c)
+      let c : 0 < numberOf (call md p f .outcome) = rw (a .says) at z in
+      (a .refers ∙ empty (call md p f .outcome) f c, a .reads ∙ refused-blank md p f c)

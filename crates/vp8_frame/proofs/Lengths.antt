@@ -7,8 +7,9 @@ use mathlib.Core.Path.{_≡_, refl, ap, sym, _∙_}
 use mathlib.Core.Bool.{Bool, true, false}
 use mathlib.Core.List.{List, [], _∷_, map}
 use lib.Dec.{leb, ltb, eqb}
-use lib.ListN.{length, drop, length-append}
+use lib.ListN.{length, length-append}
 use borrow.Author.Tests.{leb-false}
+use Rattle.vp8_records.specs.declared.Mode.{Mode}
 use Rattle.vp8_records.specs.declared.Parser.{Parser}
 use Rattle.vp8_records.specs.declared.Parsed.{Parsed}
 use Rattle.vp8_records.specs.declared.Outcome.the-variants.{Accepted, ChunkTooShort, FrameTooLong}
@@ -19,7 +20,7 @@ use Rattle.rfc6386.specs.Decoder.{bits, start}
 use Rattle.rfc6386.specs.Frame.{Chunk, shut, opened, tagged, keyChunk, chunk}
 use Rattle.rfc6386.specs.Call.{headerOf, call}
 use Rattle.rfc6386.specs.Fills.{lengths, partitions}
-use Rattle.rfc6386.proofs.Accepts.{accepted}
+use Rattle.rfc6386.proofs.Accepts.{heldBy, accepted}
 use Rattle.rfc6386.proofs.Fills.{few-parts, accepted-fills}
 
 -- parts that are joined have the sum of their lengths
@@ -45,22 +46,22 @@ short f k e = go (leb (2 ^ 28) (length f)) refl e
     go true h e = absurd (let z : _≡_ {A = ℕ} 0 1 = cc in omega arith)
     go false h e = leb-false _ _ h
 
-module _ (p : Parser) (f : List ℕ) (h : call p f .outcome ≡ Accepted) where
+module _ (md : Mode) (p : Parser) (f : List ℕ) (h : call md p f .outcome ≡ Accepted) where
   -- the number of partitions is the definition's
-  pub partitions-are : partitionsOf (call p f .header) ≡ partitions (call p f .header)
+  pub partitions-are : partitionsOf (call md p f .header) ≡ partitions (call md p f .header)
   unfolding headerOf
   partitions-are =
-      let a = accepted p f h in
-      let area : List ℕ = drop (a .k .size) f in
-      let small : a .c .log2parts < 4 = rw (a .reading .coded) at (few-parts (a .k .key) (bits area) (start area)) in
-      let is : call p f .header .«log2_nbr_of_dct_partitions» ≡ a .c .log2parts =
+      let a = accepted md p f h in
+      let bytes : List ℕ = heldBy md (a .k) f in
+      let small : a .c .log2parts < 4 = rw (a .reading .coded) at (few-parts md (a .k .key) (bits bytes) (start bytes)) in
+      let is : call md p f .header .«log2_nbr_of_dct_partitions» ≡ a .c .log2parts =
       ap (λ (x : Parsed). x .header .«log2_nbr_of_dct_partitions») (a .answers) in
       ap (λ (n : ℕ). 2 ^ n) (mod-eq-of-lt (omega (arith, small, is)))
 
-  pub length-is : lengthOf (call p f .header) ≡ length f
+  pub length-is : lengthOf (call md p f .header) ≡ length f
   unfolding total
   length-is =
-      let fills = accepted-fills p f h in
-      let sum : total (lengths (call p f .header)) ≡ length f = ap total (sym (fills .each)) ∙ joined-length _ ∙ ap length (fills .whole) in
-      let fits : length f < 2 ^ 28 = short f _ (accepted p f h .opens) in
+      let fills = accepted-fills md p f h in
+      let sum : total (lengths (call md p f .header)) ≡ length f = ap total (sym (fills .each)) ∙ joined-length _ ∙ ap length (fills .whole) in
+      let fits : length f < 2 ^ 28 = short f _ (accepted md p f h .opens) in
       rw partitions-are (ap (λ (n : ℕ). n % 2 ^ 64) sum ∙ mod-eq-of-lt (omega (arith, fits)))

@@ -4,11 +4,12 @@ use Prim.Native.Nat.{ℕ}
 use mathlib.Core.Path.{_≡_, sym, _∙_}
 use mathlib.Core.List.{List}
 use Rattle.vp8_records.specs.declared.Header.{Header}
+use Rattle.vp8_records.specs.declared.Mode.{Mode}
 use Rattle.vp8_records.specs.declared.Parser.{Parser}
 use Rattle.vp8_records.specs.declared.Outcome.{Outcome}
 use Rattle.vp8_frame.specs.View.{Framed}
 
-pub same : {p : Parser} {f : List ℕ} {o o′ : Outcome} {h h′ : Header} {s s′ : List ℕ} {q q′ : Parser} → Framed p f o h s q
-    → Framed p f o′ h′ s′ q′
+pub same : {md : Mode} {p : Parser} {f : List ℕ} {o o′ : Outcome} {h h′ : Header} {s s′ : List ℕ} {q q′ : Parser} → Framed md p f o h s q
+    → Framed md p f o′ h′ s′ q′
     → (o ≡ o′) × (h ≡ h′) × (s ≡ s′) × (q ≡ q′)
 same a b = (a .says ∙ sym (b .says), a .reads ∙ sym (b .reads), a .refers ∙ sym (b .refers), a .leaves ∙ sym (b .leaves))

@@ -13,7 +13,7 @@ use Rattle.vp8_records.proofs.Parser as Held
 use Rattle.vp8_records.proofs.Typed.{typed-sized}
 use Rattle.rfc6386.specs.Decoder.{pick}
 use Rattle.rfc6386.specs.Runs.{or}
-use Rattle.rfc6386.specs.Call.{call, after}
+use Rattle.rfc6386.specs.Call.{Asked, after}
 use Rattle.rfc6386_history.specs.History.{cutter, anyCutter, since, before, writes, last}
 use Rattle.rfc6386_history.specs.Kept.{kept}
 use Rattle.rfc6386_history.specs.Answered.{Answered, shows}
@@ -23,34 +23,34 @@ use Rattle.vp8_frame.specs.View.{viewed, Had, Lent, had}
 
 lent : Fixes Lent had
 lent = record {
-  one = λ p f a q c. (λ i. record { outcome = c .says i; header = c .reads i; part = c .refers i }, c .leaves);
-  meets = λ p f. record { says = refl; reads = refl; refers = refl; leaves = refl };
+  one = λ p x a q c. (λ i. record { outcome = c .says i; header = c .reads i; part = c .refers i }, c .leaves);
+  meets = λ p x. record { says = refl; reads = refl; refers = refl; leaves = refl };
 }
 
-forgets-had : (p q : Parser) (f : List ℕ) → cutter f ≡ true → had p f ≡ had q f
-forgets-had p q f h =
-    ap {B = Had} (λ r. record { outcome = r .outcome; header = r .header; part = viewed (r .outcome) f }) (forgets p q f h)
+forgets-had : (p q : Parser) (x : Asked) → cutter (x .frame) ≡ true → had p x ≡ had q x
+forgets-had p q x h =
+    ap {B = Had} (λ r. record { outcome = r .outcome; header = r .header; part = viewed (r .outcome) (x .frame) }) (forgets p q x h)
 
 -- the answers are the definition's, and so is the record that is left
-pub lent-answers : {p s : Parser} {fs : List (List ℕ)} {rs : List Had} → Answered Had Lent p fs rs s
-    → (rs ≡ shows had p fs) × (s ≡ after p fs)
+pub lent-answers : {p s : Parser} {xs : List Asked} {rs : List Had} → Answered Had Lent p xs rs s
+    → (rs ≡ shows had p xs) × (s ≡ after p xs)
 lent-answers = answers-are lent
 
-pub lent-answered : (p : Parser) (fs : List (List ℕ)) → Answered Had Lent p fs (shows had p fs) (after p fs)
+pub lent-answered : (p : Parser) (xs : List Asked) → Answered Had Lent p xs (shows had p xs) (after p xs)
 lent-answered = are-answered lent
 
 -- demand 3's cut: all calls; those before the latest frame that cuts off the past; and those since, over a fresh parser
-pub lent-cut : {p s t u : Parser} {xs : List (List ℕ)} {rs ss ts : List Had} → Answered Had Lent p xs rs s
+pub lent-cut : {p s t u : Parser} {xs : List Asked} {rs ss ts : List Had} → Answered Had Lent p xs rs s
     → Answered Had Lent p (before xs) ss t → Answered Had Lent (pick (anyCutter xs) fresh p) (since xs) ts u → rs ≡ ss ++ ts
 lent-cut = answered-cut lent forgets-had
 
 -- and its last writer, of what the record holds afterwards
-pub lent-keeps : {s : Parser} {xs : List (List ℕ)} {rs : List Had} → Answered Had Lent fresh xs rs s → (i : ℕ)
+pub lent-keeps : {s : Parser} {xs : List Asked} {rs : List Had} → Answered Had Lent fresh xs rs s → (i : ℕ)
     → kept s i ≡ or (last (map (λ f. writes f i) (since xs))) (kept fresh i)
 lent-keeps = answered-keeps lent
 
 -- over any record that code can lend
-pub lent-keeps-from : {p s : Parser} {xs : List (List ℕ)} {rs : List Had} (vs : List Val) → Is Held.the-row p vs
+pub lent-keeps-from : {p s : Parser} {xs : List Asked} {rs : List Had} (vs : List Val) → Is Held.the-row p vs
     → Answered Had Lent p xs rs s → (i : ℕ)
     → kept s i ≡ or (last (map (λ f. writes f i) (since xs))) (kept (pick (anyCutter xs) fresh p) i)
 lent-keeps-from {p} vs held a = answered-keeps-from lent (typed-sized p vs held) a

@@ -1,9 +1,11 @@
 // The lent forms of parser.rs, thin functions over the call by value: a parser behind `&mut`, and a frame that refers to the caller's
 // bytes.
 use vp8_records::Header;
+use vp8_records::Mode;
 use vp8_records::Outcome;
 use vp8_records::Parser;
 ghost use mathlib.Core.Path.{_≡_};
+ghost use Rattle.vp8_records.specs.declared.Mode.the-variants.{Rust};
 ghost use Rattle.vp8_frame.specs.View.{viewed, Framed};
 
 // A header and the whole frame that it was read from; of a refusal, the blank header and an empty part.
@@ -32,11 +34,11 @@ fn part_of<'a>(bytes: &'a [u8], outcome: Outcome) -> &'a [u8]
 }
 
 // One call over a lent parser, which holds the new state when it returns, also where the frame is refused.
-pub fn parse_frame<'s, 'a>(parser: &'s mut Parser, bytes: &'a [u8]) -> Frame<'a>
-    ensures { λ r. ⌜ Framed (now (parser .entry)) (now (bytes .entry)) (r .outcome) (r .header) (now (r .bitstream)) (now (parser .exit))
+pub fn parse_frame_in<'s, 'a>(parser: &'s mut Parser, bytes: &'a [u8], mode: Mode) -> Frame<'a>
+    ensures { λ r. ⌜ Framed mode (now (parser .entry)) (now (bytes .entry)) (r .outcome) (r .header) (now (r .bitstream)) (now (parser .exit))
         × (r .bitstream .ptr ≡ bytes .entry .ptr) ⌝ }
 {
-    let parsed = vp8_parser::parse(*parser, bytes);
+    let parsed = vp8_parser::parse_in(*parser, bytes, mode);
     *parser = parsed.parser;
     let bitstream = part_of(bytes, parsed.outcome);
     Frame {
@@ -44,6 +46,14 @@ pub fn parse_frame<'s, 'a>(parser: &'s mut Parser, bytes: &'a [u8]) -> Frame<'a>
         header: parsed.header,
         bitstream,
     }
+}
+
+// The same as the Rust reads.
+pub fn parse_frame<'s, 'a>(parser: &'s mut Parser, bytes: &'a [u8]) -> Frame<'a>
+    ensures { λ r. ⌜ Framed Rust (now (parser .entry)) (now (bytes .entry)) (r .outcome) (r .header) (now (r .bitstream)) (now (parser .exit))
+        × (r .bitstream .ptr ≡ bytes .entry .ptr) ⌝ }
+{
+    parse_frame_in(parser, bytes, Mode::Rust)
 }
 
 impl<'a> Frame<'a> {

@@ -3,6 +3,7 @@ use Prim.Native.Nat.{ℕ}
 use mathlib.Core.Path.{_≡_, refl, sym, ap, _∙_}
 use mathlib.Core.List.{List, []}
 use Rattle.vp8_records.specs.declared.Header.{Header}
+use Rattle.vp8_records.specs.declared.Mode.{Mode}
 use Rattle.vp8_records.specs.declared.Parser.{Parser}
 use Rattle.rfc6386.specs.Decoder.{State, Out, start, bits, pick}
 use Rattle.rfc6386.specs.Reads.{run}
@@ -25,15 +26,15 @@ state-is : (k : DataChunk) (p : Parser) (a : FirstCoded) (b : SecondCoded) (t : 
 unfolding headerOf apply probsOver firstOf secondOf thirdOf interOf
 state-is k p a b t s q = refl
 
-pub built : (k : DataChunk) (p : Parser) (area : List ℕ) (a : FirstCoded) (b : SecondCoded) (t : ThirdCoded) (st : State)
+pub built : (md : Mode) (k : DataChunk) (p : Parser) (area : List ℕ) (a : FirstCoded) (b : SecondCoded) (t : ThirdCoded) (st : State)
     (x : First) (y : Second) (z : Third) (h : Header) (q : Parser)
     → x ≡ firstOf (p .segmentation) a → y ≡ secondOf (p .«mb_lf_adjust») b → z ≡ thirdOf (probsOf p) t
-    → run (header (k .«key_frame»)) (bits area) (start area) ≡ out (wholeOf a b t) st
+    → run (header md (k .«key_frame»)) (bits area) (start area) ≡ out (wholeOf a b t) st
     → Heads h k x y z (snapshot (bits area) st)
     → q ≡ keeping (x .segmentation) (y .«mb_lf_adjust») (pick (h .«refresh_entropy_probs») (probsIn z) (probsOf p))
-    → record { header = h; parser = q } ≡ headedOf (chunkOf k) area p
+    → record { header = h; parser = q } ≡ headedOf md (chunkOf k) area p
 unfolding headedOf
-built k p area a b t st x y z h q ex ey ez e heads eq =
+built md k p area a b t st x y z h q ex ey ez e heads eq =
     let s : Snapshot = snapshot (bits area) st in
     let h′ = heads p a b t ex ey ez in
     let q′ : q ≡ apply (wholeOf a b t) p = (rw (ex, ey, ez, h′) at eq) ∙ state-is k p a b t s _ in

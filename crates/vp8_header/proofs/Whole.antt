@@ -1,17 +1,19 @@
 -- The three stages, one after the other, are the definition's header tree: binds are regrouped, field by field.
 use mathlib.Core.Path.{_≡_, _∙_}
 use mathlib.Core.Bool.{Bool, false, not}
+use Rattle.vp8_records.specs.declared.Mode.{Mode}
 use Rattle.rfc6386.specs.Reads.{ret, _>>=_, flag, when, lit}
 use Rattle.rfc6386.specs.Coded.{segments, deltas, quant, refresh, coefficients, inter, noInter, header}
 use Rattle.rfc6386.proofs.Trees.{assoc, onward}
 use Rattle.vp8_header.specs.Stages.{first, second, third, wholeOf}
 
-pub stages : (key : Bool) → first key >>= (λ a. second key >>= (λ b. third key >>= (λ t. ret (wholeOf a b t)))) ≡ header key
+pub stages : (md : Mode) (key : Bool)
+    → first md key >>= (λ a. second key >>= (λ b. third key >>= (λ t. ret (wholeOf a b t)))) ≡ header md key
 unfolding header first second third _>>=_
-stages key =
+stages md key =
     assoc (when key flag false) _ _ ∙ onward (when key flag false) (λ cs.
     assoc (when key flag false) _ _ ∙ onward (when key flag false) (λ ct.
-    assoc segments _ _ ∙ onward segments (λ sg.
+    assoc (segments md) _ _ ∙ onward (segments md) (λ sg.
     assoc flag _ _ ∙ onward flag (λ ft.
     assoc (lit 6) _ _ ∙ onward (lit 6) (λ ll.
     assoc (lit 3) _ _ ∙ onward (lit 3) (λ sh.

@@ -4,6 +4,7 @@ use Prim.Native.Nat.{ℕ}
 use mathlib.Core.Path.{_≡_}
 use mathlib.Core.List.{List, []}
 use Rattle.vp8_records.specs.declared.Header.{Header}
+use Rattle.vp8_records.specs.declared.Mode.{Mode}
 use Rattle.vp8_records.specs.declared.Parser.{Parser}
 use Rattle.rfc6386.specs.Decoder.{Out, bits}
 use Rattle.rfc6386.specs.Coded.{Coded}
@@ -42,5 +43,5 @@ Heads h k x y z s =
     → x ≡ firstOf (p .segmentation) a → y ≡ secondOf (p .«mb_lf_adjust») b → z ≡ thirdOf (probsOf p) t
     → h ≡ headerOf (chunkOf k) (wholeOf a b t) s [] (shown (k .«key_frame») (probsOver (wholeOf a b t) (probsOf p)))
 
-unfoldable pub headedOf : Chunk → List ℕ → Parser → Headed
-headedOf k bytes p = headedBy k p (bits bytes) (decoded (k .key) bytes)
+unfoldable pub headedOf : Mode → Chunk → List ℕ → Parser → Headed
+headedOf md k bytes p = headedBy k p (bits bytes) (decoded md (k .key) bytes)

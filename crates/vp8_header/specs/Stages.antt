@@ -4,6 +4,7 @@ use Prim.Native.Nat.{ℕ}
 use mathlib.Core.Bool.{Bool, false, not}
 use mathlib.Core.Option.{Option}
 use mathlib.Core.List.{List}
+use Rattle.vp8_records.specs.declared.Mode.{Mode}
 use Rattle.vp8_records.specs.declared.QuantIndices.{QuantIndices}
 use Rattle.vp8_records.specs.declared.Segmentation.{Segmentation}
 use Rattle.vp8_records.specs.declared.MbLfAdjustments.{MbLfAdjustments}
@@ -26,11 +27,11 @@ pub record FirstCoded : Type 0 where
   pub level : ℕ
   pub sharpness : ℕ
 
-unfoldable pub first : Bool → Rd FirstCoded
-first key = do
+unfoldable pub first : Mode → Bool → Rd FirstCoded
+first md key = do
   cs ← when key flag false
   ct ← when key flag false
-  sg ← segments
+  sg ← segments md
   ft ← flag
   ll ← lit 6
   sh ← lit 3

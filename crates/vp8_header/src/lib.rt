@@ -3,6 +3,7 @@ use bool_decoder::BoolDecoder;
 use vp8_records::CoeffProbs;
 use vp8_records::Header;
 use vp8_records::MbLfAdjustments;
+use vp8_records::Mode;
 use vp8_records::ModeProbs;
 use vp8_records::MvProbs;
 use vp8_records::Parser;
@@ -162,13 +163,19 @@ pub struct Headed {
 }
 
 // From the first flag to the filter's sharpness (RFC 6386 sections 9.2 to 9.4).
-fn parse_first(area: &[u8], dec: BoolDecoder, key: bool, seg: Segmentation) -> FirstRead
+fn parse_first(
+    area: &[u8],
+    dec: BoolDecoder,
+    key: bool,
+    seg: Segmentation,
+    mode: Mode,
+) -> FirstRead
     requires { ⌜ Good (now area) dec 111 ⌝ }
-    ensures { λ r. ⌜ Ran (make (firstOf seg) (first key)) (now (area .entry)) dec (r .first) (r .dec) 111 ⌝ }
+    ensures { λ r. ⌜ Ran (make (firstOf seg) (first mode key)) (now (area .entry)) dec (r .first) (r .dec) 111 ⌝ }
 {
     let color_space = bool_decoder::reads::flag_if(area, dec, key);
     let clamping_type = bool_decoder::reads::flag_if(area, color_space.dec, key);
-    let update = vp8_fields::segmentation::update_segmentation(area, clamping_type.dec, seg);
+    let update = vp8_fields::segmentation::update_segmentation(area, clamping_type.dec, seg, mode);
     let filter_type = update.dec.read_flag(area);
     let level = bool_decoder::reads::read_byte(area, filter_type.dec, 6);
     let sharpness = bool_decoder::reads::read_byte(area, level.dec, 3);
@@ -480,13 +487,13 @@ fn header_of(
 }
 
 // The whole header over the bytes that the decoder may read (RFC 6386 section 19.2), and the state that it leaves.
-pub fn parse_frame_header(area: &[u8], parser: Parser, chunk: DataChunk) -> Headed
-    ensures { λ r. ⌜ r ≡ headedOf (chunkOf chunk) (now (area .entry)) parser ⌝ }
+pub fn parse_frame_header(area: &[u8], parser: Parser, chunk: DataChunk, mode: Mode) -> Headed
+    ensures { λ r. ⌜ r ≡ headedOf mode (chunkOf chunk) (now (area .entry)) parser ⌝ }
 {
     let key = chunk.key_frame;
     let dec = BoolDecoder::new(area);
     let old_segmentation = parser.segmentation;
-    let a = parse_first(area, dec, key, old_segmentation);
+    let a = parse_first(area, dec, key, old_segmentation, mode);
     let old_adjust = parser.mb_lf_adjust;
     let b = parse_second(area, a.dec, key, old_adjust);
     let c = parse_third(area, b.dec, key, parser);

@@ -6,6 +6,7 @@ use mathlib.Core.Option.{Option, none, some}
 use mathlib.Core.List.{List, [], _∷_, _++_}
 use lib.ListN.{length, drop}
 use borrow.Author.Tests.{lt-ltb, le-ltb}
+use Rattle.vp8_records.specs.declared.Mode.{Mode}
 use Rattle.vp8_records.specs.declared.Parser.{Parser}
 use Rattle.vp8_records.specs.declared.Outcome.the-variants.{InvalidPartitionSize, EmptyArea}
 use Rattle.vp8_records.specs.Start.{fresh, blank}
@@ -44,13 +45,13 @@ missing none r e h = refl
 missing (some ss) r e h = absurd (true≢false (sym (ap (λ (s : Sizes). s .ok) e) ∙ h))
 
 -- the header codes 1, 2, 4 or 8 partitions
-pub few : (key : Bool) (bytes : List ℕ) → decoded key bytes .got .log2parts < 4
-few key bytes = few-parts key (bits bytes) (start bytes)
+pub few : (md : Mode) (key : Bool) (bytes : List ℕ) → decoded md key bytes .got .log2parts < 4
+few md key bytes = few-parts md key (bits bytes) (start bytes)
 
-module _ (k : Chunk) (p : Parser) (f : List ℕ) where
+module _ (md : Mode) (k : Chunk) (p : Parser) (f : List ℕ) where
   pub ends-beyond : length f < k .size + k .first
-      → answer (InvalidPartitionSize (k .size + k .first) (length f)) blank (base k p) ≡ finish (follows k (body k f)) p
-  ends-beyond h = ap (λ (b : Body). finish (follows k b) p) (sym (body-beyond k f h))
+      → answer (InvalidPartitionSize (k .size + k .first) (length f)) blank (base k p) ≡ finish (follows k (body md k f)) p
+  ends-beyond h = ap (λ (b : Body). finish (follows k b) p) (sym (body-beyond md k f h))
 
   -- a reset state has no flag to clear
   clears : (key : Bool) → cleared (pick key (reset k) p) ≡ pick key (reset k) (cleared p)
@@ -58,13 +59,13 @@ module _ (k : Chunk) (p : Parser) (f : List ℕ) where
   clears true = refl
   clears false = refl
 
-  pub ends-empty : k .size + k .first ≤ length f → length (heldBy k f) ≡ 0
-      → answer EmptyArea blank (cleared (base k p)) ≡ finish (follows k (body k f)) p
+  pub ends-empty : k .size + k .first ≤ length f → length (heldBy md k f) ≡ 0
+      → answer EmptyArea blank (cleared (base k p)) ≡ finish (follows k (body md k f)) p
   ends-empty h e =
       ap (λ (q : Parser). answer EmptyArea blank q) (clears (k .key))
-      ∙ ap (λ (b : Body). finish (follows k b) p) (sym (body-empty k f h e))
+      ∙ ap (λ (b : Body). finish (follows k b) p) (sym (body-empty md k f h e))
 
-  pub ends-read : k .size + k .first ≤ length f → (length (heldBy k f) ≡ 0 → ⊥)
-      → sizedOf k (drop (k .size) f) (base k p) ≡ finish (follows k (body k f)) p
+  pub ends-read : k .size + k .first ≤ length f → (length (heldBy md k f) ≡ 0 → ⊥)
+      → sizedOf md k (drop (k .size) f) (heldBy md k f) (base k p) ≡ finish (follows k (body md k f)) p
   unfolding sizedOf headed
-  ends-read h n = ap (λ (b : Body). finish (follows k b) p) (sym (body-read k f h n))
+  ends-read h n = ap (λ (b : Body). finish (follows k b) p) (sym (body-read md k f h n))

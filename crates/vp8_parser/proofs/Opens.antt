@@ -6,6 +6,7 @@ use mathlib.Core.Bool.{Bool, true, false}
 use mathlib.Core.List.{List, [], _∷_}
 use lib.ListN.{length, drop}
 use borrow.Author.Tests.{lt-ltb, le-ltb, lt-leb, eq-eqb, ne-eqb}
+use Rattle.vp8_records.specs.declared.Mode.{Mode}
 use Rattle.vp8_records.specs.declared.Outcome.the-variants.{ChunkTooShort, InvalidStartCode}
 use Rattle.rfc6386.specs.Bytes.{le2, le3}
 use Rattle.rfc6386.specs.Frame.{Chunk, tagged, Opened, shut, opened, keyChunk, chunk, Body, beyond, empty, decoded, headed, body}
@@ -54,28 +55,28 @@ module _ (f : List ℕ) where
   unfolding chunk
   chunk-inter h g n = sym (no-test _ _ (lt-leb _ _ h) ∙ no-test _ _ (le-ltb _ _ g) ∙ no-test _ _ (ne-eqb (le3 f 0 % 2) 0 n))
 
-module _ (k : Chunk) (f : List ℕ) where
-  pub body-beyond : length f < k .size + k .first → body k f ≡ beyond (k .size + k .first) (length f)
+module _ (md : Mode) (k : Chunk) (f : List ℕ) where
+  pub body-beyond : length f < k .size + k .first → body md k f ≡ beyond (k .size + k .first) (length f)
   unfolding body
   body-beyond h = yes-test _ _ (lt-ltb _ _ h)
 
   -- by what is held of the area
   abbrev bodyBy : List ℕ → Body
-  bodyBy bytes = elim bytes [ [] ↦ empty | b ∷ bs ↦ headed k (drop (k .size) f) (b ∷ bs) (decoded (k .key) (b ∷ bs)) ]
+  bodyBy bytes = elim bytes [ [] ↦ empty | b ∷ bs ↦ headed k (drop (k .size) f) (b ∷ bs) (decoded md (k .key) (b ∷ bs)) ]
 
-  pub body-empty : k .size + k .first ≤ length f → length (heldBy k f) ≡ 0 → body k f ≡ empty
+  pub body-empty : k .size + k .first ≤ length f → length (heldBy md k f) ≡ 0 → body md k f ≡ empty
   unfolding body
-  body-empty h e = no-test _ _ (le-ltb _ _ h) ∙ go (heldBy k f) e
+  body-empty h e = no-test _ _ (le-ltb _ _ h) ∙ go (heldBy md k f) e
     where
       go : (bytes : List ℕ) → length bytes ≡ 0 → bodyBy bytes ≡ empty
       go [] e = refl
       go (b ∷ bs) e = absurd (omega (arith, e))
 
-  pub body-read : k .size + k .first ≤ length f → (length (heldBy k f) ≡ 0 → ⊥)
-      → body k f ≡ headed k (drop (k .size) f) (heldBy k f) (decoded (k .key) (heldBy k f))
+  pub body-read : k .size + k .first ≤ length f → (length (heldBy md k f) ≡ 0 → ⊥)
+      → body md k f ≡ headed k (drop (k .size) f) (heldBy md k f) (decoded md (k .key) (heldBy md k f))
   unfolding body
-  body-read h n = no-test _ _ (le-ltb _ _ h) ∙ go (heldBy k f) n
+  body-read h n = no-test _ _ (le-ltb _ _ h) ∙ go (heldBy md k f) n
     where
-      go : (bytes : List ℕ) → (length bytes ≡ 0 → ⊥) → bodyBy bytes ≡ headed k (drop (k .size) f) bytes (decoded (k .key) bytes)
+      go : (bytes : List ℕ) → (length bytes ≡ 0 → ⊥) → bodyBy bytes ≡ headed k (drop (k .size) f) bytes (decoded md (k .key) bytes)
       go [] n = absurd (n refl)
       go (b ∷ bs) n = refl

@@ -4,6 +4,7 @@ use mathlib.Core.Path.{_≡_, refl, sym, ap, _∙_}
 use mathlib.Core.Bool.{Bool}
 use mathlib.Core.List.{List}
 use native.Mathlib.Omega.{arith}
+use Rattle.vp8_records.specs.declared.Mode.{Mode}
 use Rattle.vp8_records.specs.declared.Outcome.{Outcome}
 use Rattle.vp8_records.specs.declared.Parsed.{Parsed}
 use Rattle.vp8_records.specs.declared.Parser.{Parser}
@@ -41,8 +42,8 @@ same-opened (Read k) (Read j) e = let h : chunkOf k ≡ chunkOf j = cc in ap Rea
 pub parse-uncompressed-data-chunk : (f : List ℕ) (r q : ChunkAnswer) → openedOf r ≡ chunk f → openedOf q ≡ chunk f → r ≡ q
 parse-uncompressed-data-chunk f r q a b = same-opened r q (a ∙ sym b)
 
-pub parse : (p : Parser) (f : List ℕ) (r q : Parsed) → r ≡ call p f → q ≡ call p f → r ≡ q
-parse p f r q a b = a ∙ sym b
+pub parse : (md : Mode) (p : Parser) (f : List ℕ) (r q : Parsed) → r ≡ call md p f → q ≡ call md p f → r ≡ q
+parse md p f r q a b = a ∙ sym b
 
 -- each case of a look stands for another answer of the definition
 pub same-look : (r q : Peeked) → peekOf r ≡ peekOf q → r ≡ q

@@ -4,11 +4,12 @@ use mathlib.Core.Bool.{true, false}
 use mathlib.Core.Option.{Option, none, some}
 use mathlib.Core.List.{List, _++_}
 use lib.ListN.{take, replicate}
+use Rattle.vp8_records.specs.declared.Mode.{Mode}
 use Rattle.vp8_records.specs.declared.Parser.{Parser}
 use Rattle.vp8_records.specs.declared.Parsed.{Parsed}
 use Rattle.rfc6386.specs.Decoder.{Out, bits}
 use Rattle.rfc6386.specs.Coded.{Coded}
-use Rattle.rfc6386.specs.Frame.{Chunk, Opened, shut, opened, snapshot, sum, sizes, held, decoded}
+use Rattle.rfc6386.specs.Frame.{Chunk, Opened, shut, opened, snapshot, sum, sizes, decoded}
 use Rattle.rfc6386.specs.Call.{sized}
 use Rattle.vp8_header.specs.Headed.{chunkOf}
 use Rattle.vp8_parser.specs.declared.ChunkAnswer.{ChunkAnswer}
@@ -35,8 +36,6 @@ sizesOf (some ss) = record { ok = true; sizes = padded ss }
 abbrev pub sizedBy : Chunk → List ℕ → List ℕ → Parser → Out Coded → Parsed
 sizedBy k area bytes p o = sized (sizes (2 ^ o .got .log2parts) area (k .first)) k (o .got) (snapshot (bits bytes) (o .then)) p
 
--- over an area of which something is held
-unfoldable pub sizedOf : Chunk → List ℕ → Parser → Parsed
-sizedOf k area p =
-    let bytes = held (k .first) area in
-    sizedBy k area bytes p (decoded (k .key) bytes)
+-- over an area of which these bytes are held
+unfoldable pub sizedOf : Mode → Chunk → List ℕ → List ℕ → Parser → Parsed
+sizedOf md k area bytes p = sizedBy k area bytes p (decoded md (k .key) bytes)

@@ -2,6 +2,7 @@
 use vp8_header::DataChunk;
 use vp8_records::Header;
 use vp8_records::Look;
+use vp8_records::Mode;
 use vp8_records::Outcome;
 use vp8_records::Parsed;
 use vp8_records::Parser;
@@ -11,8 +12,9 @@ ghost use mathlib.Core.Bool.{true, false};
 ghost use mathlib.Core.Option.{none};
 ghost use Prim.Native.Nat.{_^_, _<_, _≤_};
 ghost use lib.ListN.{length, take};
+ghost use Rattle.vp8_records.specs.declared.Mode.the-variants.{Rust};
 ghost use Rattle.vp8_records.specs.Start.{blank};
-ghost use Rattle.rfc6386.specs.Frame.{tagged, keyChunk, chunk, codedSizes, sizes, body, follows};
+ghost use Rattle.rfc6386.specs.Frame.{tagged, keyChunk, chunk, codedSizes, sizes, held, body, follows};
 ghost use Rattle.rfc6386.specs.Call.{cleared, base, answer, finish, call};
 ghost use Rattle.rfc6386.specs.Peek.{look, barred, peek, peekOf, Early};
 ghost use Rattle.vp8_header.specs.Headed.{chunkOf};
@@ -235,12 +237,23 @@ fn clear_updates(parser: Parser) -> Parser
     after
 }
 
-// A frame whose area is not empty, over the state that it starts from.
-fn parse_area(parser: Parser, area: &[u8], chunk: DataChunk) -> Parsed
-    requires { ⌜ length (now area) < 2 ^ 28 ⌝ }
-    ensures { λ r. ⌜ r ≡ sizedOf (chunkOf chunk) (now (area .entry)) parser ⌝ }
+// What the decoder may read of the area: the first partition; to the Rust all of it.
+fn held(mode: Mode, first: u32, area: &[u8]) -> &[u8]
+    requires { ⌜ first ≤ length (now area) ⌝ }
+    ensures { λ r. ⌜ now r ≡ held mode first (now (area .entry)) ⌝ }
 {
-    let headed = vp8_header::parse_frame_header(area, parser, chunk);
+    match mode {
+        Mode::Rust => area,
+        Mode::Standard => &area[..first as usize],
+    }
+}
+
+// A frame of whose area some bytes are held, over the state that it starts from.
+fn parse_area(parser: Parser, area: &[u8], held: &[u8], chunk: DataChunk, mode: Mode) -> Parsed
+    requires { ⌜ length (now area) < 2 ^ 28 ⌝ }
+    ensures { λ r. ⌜ r ≡ sizedOf mode (chunkOf chunk) (now (area .entry)) (now (held .entry)) parser ⌝ }
+{
+    let headed = vp8_header::parse_frame_header(held, parser, chunk, mode);
     let mut header = headed.header;
     let after = headed.parser;
     let parts = compute_partition_sizes(
@@ -262,9 +275,9 @@ fn parse_area(parser: Parser, area: &[u8], chunk: DataChunk) -> Parsed
 }
 
 // What follows the chunk.
-fn parse_body(parser: Parser, bytes: &[u8], chunk: DataChunk) -> Parsed
+fn parse_body(parser: Parser, bytes: &[u8], chunk: DataChunk, mode: Mode) -> Parsed
     requires { ⌜ length (now bytes) < 2 ^ 28 ⌝ }
-    ensures { λ r. ⌜ r ≡ finish (follows (chunkOf chunk) (body (chunkOf chunk) (now (bytes .entry)))) parser ⌝ }
+    ensures { λ r. ⌜ r ≡ finish (follows (chunkOf chunk) (body mode (chunkOf chunk) (now (bytes .entry)))) parser ⌝ }
 {
     let at = chunk.data_chunk_size as usize;
     let end = at + chunk.first_part_size as usize;
@@ -273,19 +286,27 @@ fn parse_body(parser: Parser, bytes: &[u8], chunk: DataChunk) -> Parsed
         return refused(Outcome::InvalidPartitionSize(end, bytes.len()), from);
     }
     let area = &bytes[at..];
-    if area.len() == 0 {
+    let held = held(mode, chunk.first_part_size, area);
+    if held.len() == 0 {
         return refused(Outcome::EmptyArea, clear_updates(from));
     }
-    parse_area(from, area, chunk)
+    parse_area(from, area, held, chunk, mode)
 }
 
-// One call: every slice gets an answer, which is the definition's (RFC 6386 section 9).
-pub fn parse(parser: Parser, bytes: &[u8]) -> Parsed
-    ensures { λ r. ⌜ r ≡ call parser (now (bytes .entry)) ⌝ }
+// One call: every slice gets an answer, which is the definition's in that mode (RFC 6386 section 9).
+pub fn parse_in(parser: Parser, bytes: &[u8], mode: Mode) -> Parsed
+    ensures { λ r. ⌜ r ≡ call mode parser (now (bytes .entry)) ⌝ }
 {
     let opened = parse_uncompressed_data_chunk(bytes);
     match opened {
         ChunkAnswer::Refused(outcome) => refused(outcome, parser),
-        ChunkAnswer::Read(chunk) => parse_body(parser, bytes, chunk),
+        ChunkAnswer::Read(chunk) => parse_body(parser, bytes, chunk, mode),
     }
+}
+
+// The same as the Rust reads.
+pub fn parse(parser: Parser, bytes: &[u8]) -> Parsed
+    ensures { λ r. ⌜ r ≡ call Rust parser (now (bytes .entry)) ⌝ }
+{
+    parse_in(parser, bytes, Mode::Rust)
 }

@@ -2,12 +2,14 @@
 --   Layout: their numbers as flat runs, and where each entry stands.
 --   Start: their starting values, and the blank header.
 --   Outcome: an outcome's number, and the values that it carries.
+--   Mode: a mode by its number.
 --   Shape: the lengths of a parser's arrays.
 --   Length: a frame's length by its header.
 --   Place: where a field lies.
 pub mod Layout
 pub mod Start
 pub mod Outcome
+pub mod Mode
 pub mod Shape
 pub mod Length
 pub mod Place

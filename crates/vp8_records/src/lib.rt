@@ -7,6 +7,7 @@ ghost use Rattle.vp8_records.specs.Start.{freshSegmentation, freshAdjust
 ghost use Rattle.vp8_records.specs.Start.{noQuant, noCoeffs, noMv, noModes, blank};
 ghost use Rattle.vp8_records.specs.Place.{further};
 ghost use Rattle.vp8_records.specs.Outcome.{numberOf};
+ghost use Rattle.vp8_records.specs.Mode.{modeOf};
 ghost use Rattle.vp8_records.specs.Length.{total, partitionsOf, lengthOf};
 
 // The quantizer indices (RFC 6386 section 9.6).
@@ -197,6 +198,14 @@ pub struct Parser {
     pub mode_probs: ModeProbs,
 }
 
+// Whose reading of a frame: it is given with each call, and not kept.
+pub enum Mode {
+    // The Rust's: segment probabilities only with feature data, and a decoder that reads on past the first partition.
+    Rust,
+    // The standard's own, with neither (RFC 6386 sections 9.3 and 9.5).
+    Standard,
+}
+
 // How a call went: a header, or one of six refusals with what it carries.
 pub enum Outcome {
     // 0: a header was read, and the partitions lie within the frame.
@@ -253,6 +262,19 @@ pub struct Parsed {
     pub header: Header,
     // What is kept for the next frame.
     pub parser: Parser,
+}
+
+impl Mode {
+    // By its number: 0 is the Rust's, any other the standard's.
+    pub fn of(number: u32) -> Mode
+        ensures { λ r. ⌜ r ≡ modeOf number ⌝ }
+    {
+        if number == 0 {
+            Mode::Rust
+        } else {
+            Mode::Standard
+        }
+    }
 }
 
 impl Outcome {

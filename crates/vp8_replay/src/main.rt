@@ -7,6 +7,7 @@ use lines::Number;
 use std::num::wrapping_add_u64;
 use vp8_compare::Found;
 use vp8_compare::Place;
+use vp8_records::Mode;
 use vp8_records::Parsed;
 use vp8_records::Parser;
 use vp8_show::input::Came;
@@ -215,13 +216,20 @@ fn compared(
 }
 
 // The answer to one frame, held against the stored one.
-fn frame(replay: Replay, case: u32, bytes: &[u8], probs: &mut [u8], kept: &mut [u8]) -> Replay {
+fn frame(
+    replay: Replay,
+    mode: Mode,
+    case: u32,
+    bytes: &[u8],
+    probs: &mut [u8],
+    kept: &mut [u8],
+) -> Replay {
     let mut given = [0u32; 3];
     let mut numbers = [0u32; 50];
     if !take_answer(&mut given, &mut numbers, probs, kept) {
         return wrong(replay, b"an answer that is cut short or has a wrong index");
     }
-    let parsed = vp8_parser::parse(replay.parser, bytes);
+    let parsed = vp8_parser::parse_in(replay.parser, bytes, mode);
     let found = compared(parsed, &given, &numbers, probs, kept);
     let tally = judged(replay.tally, case, found);
     let parser = parsed.parser;
@@ -229,15 +237,23 @@ fn frame(replay: Replay, case: u32, bytes: &[u8], probs: &mut [u8], kept: &mut [
 }
 
 // A frame has to be there, with its whole bytes.
-fn framed(replay: Replay, case: u32, size: u32, probs: &mut [u8], kept: &mut [u8]) -> Replay {
+fn framed(
+    replay: Replay,
+    mode: Mode,
+    case: u32,
+    size: u32,
+    probs: &mut [u8],
+    kept: &mut [u8],
+) -> Replay {
     let mut buffer = [0u8; 65536];
     let taken = vp8_show::input::take_frame(&mut buffer, size);
     let came = taken.came;
     let count = taken.count;
     match came {
-        Came::Frame => frame(replay, case, &buffer[..count], probs, kept),
+        Came::Frame => frame(replay, mode, case, &buffer[..count], probs, kept),
         Came::TooLarge => wrong(replay, b"too large"),
         Came::Fresh => wrong(replay, b"cut short"),
+        Came::In(_) => wrong(replay, b"cut short"),
         Came::Look => wrong(replay, b"cut short"),
         Came::End => wrong(replay, b"cut short"),
         Came::CutShort => wrong(replay, b"cut short"),
@@ -245,12 +261,12 @@ fn framed(replay: Replay, case: u32, size: u32, probs: &mut [u8], kept: &mut [u8
 }
 
 // The number of the worked case that the frame is, 0 for none, and its length stand first.
-fn numbered(replay: Replay, probs: &mut [u8], kept: &mut [u8]) -> Replay {
+fn numbered(replay: Replay, mode: Mode, probs: &mut [u8], kept: &mut [u8]) -> Replay {
     let mut first = [0u32; 2];
     if !list::numbers(&mut first, &[1u8, 4]) {
         return wrong(replay, b"cut short");
     }
-    framed(replay, first[0], first[1], probs, kept)
+    framed(replay, mode, first[0], first[1], probs, kept)
 }
 
 fn least(a: usize, b: usize) -> usize
@@ -317,7 +333,10 @@ fn record(replay: Replay, fresh: &[u8], probs: &mut [u8], kept: &mut [u8]) -> Re
                 return sequence(replay.tally, fresh, probs, kept);
             }
             if kind == 2 {
-                return numbered(replay, probs, kept);
+                return numbered(replay, Mode::Rust, probs, kept);
+            }
+            if kind == 3 {
+                return numbered(replay, Mode::Standard, probs, kept);
             }
             if kind == 0 {
                 return last(replay);

@@ -11,6 +11,7 @@ use Rattle.vp8_records.specs.Start.{fresh}
 use Rattle.vp8_records.proofs.Parser as Held
 use Rattle.rfc6386.specs.Decoder.{pick}
 use Rattle.rfc6386.specs.Runs.{or}
+use Rattle.rfc6386.specs.Call.{Asked}
 use Rattle.rfc6386_history.specs.History.{anyCutter, writes, since, last}
 use Rattle.rfc6386_history.specs.Kept.{kept}
 use Rattle.rfc6386_history.specs.Answered.{Answered, ByValue}
@@ -20,21 +21,21 @@ use Rattle.rfc6386_history.proofs.Numbers.{held-only}
 use Rattle.vp8_sequence.specs.Fold.{accepted, Folds}
 
 -- whatever answers calls of `parse` give, one after the other: the record that is left, and how many are accepted
-pub folds-answers : {p q s : Parser} {fs : List (List ℕ)} {n : ℕ} {rs : List Parsed} → Folds p fs q n → Answered Parsed ByValue p fs rs s
+pub folds-answers : {p q s : Parser} {xs : List Asked} {n : ℕ} {rs : List Parsed} → Folds p xs q n → Answered Parsed ByValue p xs rs s
     → (q ≡ s) × (n ≡ accepted rs)
 folds-answers f a = (f .state ∙ sym (parse-answers a .1), f .count ∙ ap accepted (sym (parse-answers a .0)))
 
 -- each of the 1,126 numbers is the one last written since the latest frame that cuts off the past, else that of the parser it began with
-pub kept-by-code : {p q : Parser} {fs : List (List ℕ)} {n : ℕ} → Folds p fs q n → (i : ℕ)
-    → kept q i ≡ or (last (map (λ x. writes x i) (since fs))) (kept (pick (anyCutter fs) fresh p) i)
-kept-by-code {p} {fs = fs} f i = ap (λ (z : Parser). kept z i) (f .state) ∙ last-writer-from p fs i (f .sized)
+pub kept-by-code : {p q : Parser} {xs : List Asked} {n : ℕ} → Folds p xs q n → (i : ℕ)
+    → kept q i ≡ or (last (map (λ x. writes x i) (since xs))) (kept (pick (anyCutter xs) fresh p) i)
+kept-by-code {p} {xs = xs} f i = ap (λ (z : Parser). kept z i) (f .state) ∙ last-writer-from p xs i (f .sized)
 
 -- else its starting value, if that parser was fresh
-pub kept-from-fresh : {q : Parser} {fs : List (List ℕ)} {n : ℕ} → Folds fresh fs q n → (i : ℕ)
-    → kept q i ≡ or (last (map (λ x. writes x i) (since fs))) (kept fresh i)
-kept-from-fresh {fs = fs} f i = ap (λ (z : Parser). kept z i) (f .state) ∙ last-writer fs i
+pub kept-from-fresh : {q : Parser} {xs : List Asked} {n : ℕ} → Folds fresh xs q n → (i : ℕ)
+    → kept q i ≡ or (last (map (λ x. writes x i) (since xs))) (kept fresh i)
+kept-from-fresh {xs = xs} f i = ap (λ (z : Parser). kept z i) (f .state) ∙ last-writer xs i
 
 -- and of all records that code can hold no other has these numbers
-pub no-other : {q : Parser} {fs : List (List ℕ)} {n : ℕ} → Folds fresh fs q n → (p : Parser) (vs : List Val) → Is Held.the-row p vs
-    → ((i : ℕ) → kept p i ≡ or (last (map (λ x. writes x i) (since fs))) (kept fresh i)) → p ≡ q
-no-other {fs = fs} f p vs held h = held-only p vs held fs h ∙ sym (f .state)
+pub no-other : {q : Parser} {xs : List Asked} {n : ℕ} → Folds fresh xs q n → (p : Parser) (vs : List Val) → Is Held.the-row p vs
+    → ((i : ℕ) → kept p i ≡ or (last (map (λ x. writes x i) (since xs))) (kept fresh i)) → p ≡ q
+no-other {xs = xs} f p vs held h = held-only p vs held xs h ∙ sym (f .state)

@@ -1,12 +1,15 @@
-// A record from standard input: a 4-byte little-endian length (at most 65,536) and that many bytes of a frame; the length FFFFFFFF, with
-// nothing after it, asks for a fresh parser, and FFFFFFFC that the next frame be only looked at.
+// A record from standard input: a 4-byte little-endian length (at most 65,536) and that many bytes of a frame. With nothing after it, the
+// length FFFFFFFF asks for a fresh parser, FFFFFFFE and FFFFFFFD that frames be read in the standard's mode and in the Rust's from here
+// on, and FFFFFFFC that the next frame be only looked at.
 use lines::Number;
+use vp8_records::Mode;
 ghost use Rattle.io.specs.Counts.{Counts};
 
 // How the input goes on.
 pub enum Came {
     Frame,
     Fresh,
+    In(Mode),
     Look,
     End,
     TooLarge,
@@ -48,23 +51,27 @@ pub fn take_frame(frame: &mut [u8], size: u32) -> Record
     take_bytes(frame, size as usize)
 }
 
+// A length that is none.
+fn word(size: u32) -> Record
+    ensures { λ r. ⌜ r .count ≡ 0 ⌝ }
+{
+    let came = match size {
+        0xffffffff => Came::Fresh,
+        0xfffffffe => Came::In(Mode::Standard),
+        0xfffffffd => Came::In(Mode::Rust),
+        _ => Came::Look,
+    };
+    Record { came, count: 0 }
+}
+
 // The next record, its frame to the start of the buffer.
 pub fn take(frame: &mut [u8]) -> Record
     ensures { λ r. ⌜ Counts (r .count) (now (frame .exit)) ⌝ }
 {
     match lines::take_le4() {
         Number::Is(size) => {
-            if size == 0xffffffff {
-                return Record {
-                    came: Came::Fresh,
-                    count: 0,
-                };
-            }
-            if size == 0xfffffffc {
-                return Record {
-                    came: Came::Look,
-                    count: 0,
-                };
+            if 0xfffffffc <= size {
+                return word(size);
             }
             take_frame(frame, size)
         }

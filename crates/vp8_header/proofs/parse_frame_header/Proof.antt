@@ -38,8 +38,8 @@ returns c =
     let b = made (at-second .parse-second .ensures) in
     let t = made (at-third .parse-third .ensures) in
     let reads = then _ (a .ran) (then _ (b .ran) (then _ (t .ran) (done (t .ran .over)))) in
-    let whole = same (stages (given .chunk .«key_frame»)) reads in
-    built (given .chunk) (given .parser) (now (given .area)) (a .value) (b .value) (t .value) _ _ _ _ _ _
+    let whole = same (stages (given .mode) (given .chunk .«key_frame»)) reads in
+    built (given .mode) (given .chunk) (given .parser) (now (given .area)) (a .value) (b .value) (t .value) _ _ _ _ _ _
     (a .is) (b .is) (t .is) (rw (at-new .new .ensures .state) at (whole .is)) (at-header .header-of .ensures) (c .kept .ensures)
 
 pub parse-frame-header-spec : {M : Type 1} → statement M

@@ -6,6 +6,7 @@ use mathlib.Core.List.{List}
 use denote.Ref.{now}
 use borrow.Author.Needs.{needs}
 use Rattle.vp8_records.specs.declared.Outcome.the-variants.{EndOfHeader}
+use Rattle.vp8_records.specs.declared.Mode.{Mode}
 use Rattle.vp8_records.specs.declared.Parser.{Parser}
 use Rattle.vp8_records.specs.Start.{blank}
 use Rattle.rfc6386.specs.Frame.{sizes}
@@ -25,24 +26,24 @@ compute-partition-sizes-requires : tie.Need-compute-partition-sizes-requires
 unfolding headedOf headerOf
 compute-partition-sizes-requires c κs =
     let at-header = c .before .before in
-    let start = at-header .before .before in
-    (rw (at-header .parse-frame-header .ensures) (few (start .args .chunk .«key_frame») (now (start .args .area))), start .pre)
+    let start = at-header .before .before .before in
+    (rw (at-header .parse-frame-header .ensures) (few (start .args .mode) (start .args .chunk .«key_frame») (now (start .args .held))), start .pre)
 
 refused-requires : tie.Need-refused-requires
 refused-requires c κs = search needs
 
 -- the definition's sizes, by the header that was read
-abbrev partsOf : DataChunk → List ℕ → Parser → Option (List ℕ)
-partsOf k area p = sizes (2 ^ headedOf (chunkOf k) area p .header .«log2_nbr_of_dct_partitions») area (k .«first_part_size»)
+abbrev partsOf : Mode → DataChunk → List ℕ → List ℕ → Parser → Option (List ℕ)
+partsOf md k area bytes p = sizes (2 ^ headedOf md (chunkOf k) bytes p .header .«log2_nbr_of_dct_partitions») area (k .«first_part_size»)
 
 returns : tie.Need-returns
 unfolding headedOf headerOf sizedOf
 returns c =
     let at-sizes = c .before .before in
     let at-header = at-sizes .before .before .before in
-    let a = at-header .before .before .args in
+    let a = at-header .before .before .before .args in
     let h = at-header .parse-frame-header .ensures in
-    let q : Option (List ℕ) = partsOf (a .chunk) (now (a .area)) (a .parser) in
+    let q : Option (List ℕ) = partsOf (a .mode) (a .chunk) (now (a .area)) (now (a .held)) (a .parser) in
     let r : at-sizes .compute-partition-sizes .result ≡ sizesOf q = rw h at (at-sizes .compute-partition-sizes .ensures) in
     rw (h, r, found q (at-sizes .compute-partition-sizes .result) r (c .before .if1 .taken) .1)
 
@@ -51,9 +52,9 @@ unfolding headedOf headerOf sizedOf
 returns-2 c =
     let at-sizes = c .before .before in
     let at-header = at-sizes .before .before .before in
-    let a = at-header .before .before .args in
+    let a = at-header .before .before .before .args in
     let h = at-header .parse-frame-header .ensures in
-    let q : Option (List ℕ) = partsOf (a .chunk) (now (a .area)) (a .parser) in
+    let q : Option (List ℕ) = partsOf (a .mode) (a .chunk) (now (a .area)) (now (a .held)) (a .parser) in
     let r : at-sizes .compute-partition-sizes .result ≡ sizesOf q = rw h at (at-sizes .compute-partition-sizes .ensures) in
     let x = missing q (at-sizes .compute-partition-sizes .result) r (c .before .if1 .left) in
     c .refused .ensures ∙ ap (λ (y : Headed). answer EndOfHeader blank (y .parser)) h ∙ rw x

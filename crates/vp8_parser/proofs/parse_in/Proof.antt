@@ -5,8 +5,8 @@ use borrow.Author.Needs.{needs}
 use Rattle.rfc6386.specs.Frame.{Opened, inside, decode}
 use Rattle.rfc6386.specs.Call.{finish, call}
 use Rattle.rfc6386.proofs.Peek.{opened-fits}
-use Rattle.vp8_parser.proofs.parse.Statement.{statement}
-use Rattle.vp8_parser.proofs.parse.Tie as tie
+use Rattle.vp8_parser.proofs.parse_in.Statement.{statement}
+use Rattle.vp8_parser.proofs.parse_in.Tie as tie
 
 parse-uncompressed-data-chunk-requires : tie.Need-parse-uncompressed-data-chunk-requires
 parse-uncompressed-data-chunk-requires c κs = search needs
@@ -31,7 +31,7 @@ returns c =
     let at-chunk = c .before .before .before .before in
     let a = at-chunk .before .before .args in
     c .refused .ensures
-    ∙ ap (λ (x : Opened). finish (inside x (now (a .bytes))) (a .parser))
+    ∙ ap (λ (x : Opened). finish (inside (a .mode) x (now (a .bytes))) (a .parser))
     (rw (c .before .before .opened .given .1) at (at-chunk .parse-uncompressed-data-chunk .ensures))
 
 returns-2 : tie.Need-returns-2
@@ -40,11 +40,11 @@ returns-2 c =
     let at-chunk = c .before .before .before .before in
     let a = at-chunk .before .before .args in
     c .parse-body .ensures
-    ∙ ap (λ (x : Opened). finish (inside x (now (a .bytes))) (a .parser))
+    ∙ ap (λ (x : Opened). finish (inside (a .mode) x (now (a .bytes))) (a .parser))
     (rw (c .before .before .opened2 .given .1) at (at-chunk .parse-uncompressed-data-chunk .ensures))
 
-pub parse-spec : {M : Type 1} → statement M
-parse-spec =
+pub parse-in-spec : {M : Type 1} → statement M
+parse-in-spec =
     tie.close
     (tie.spec
     parse-uncompressed-data-chunk-requires
