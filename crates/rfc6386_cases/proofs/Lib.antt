@@ -1,4 +1,5 @@
 -- One statement for the cases, one for the frames with every field, and the wrong parsers shut out.
 pub mod Cases
 pub mod Fields
+pub mod Modes
 pub mod Wrong

@@ -3,7 +3,7 @@
 -- by bool in the order of section 19.2, and not by way of this definition; the numbers are those that were given to it.
 use Prim.Native.Nat.{ℕ}
 use mathlib.Core.Bool.{true, false}
-use mathlib.Core.List.{List, [], _∷_, _++_, map}
+use mathlib.Core.List.{List, [], _∷_}
 use lib.IntN.{pos, negℤ}
 use lib.ListN.{replicate, set}
 use Rattle.vp8_probs.specs.Tables.{coeffDefault, mvDefault}
@@ -531,17 +531,15 @@ accepts f p h q md = record { mode = md; bytes = f; over = p; answer = record { 
 
 unfoldable pub examples : List Example
 examples =
-    -- everything is coded; of the parser nothing is left
-    map (accepts keyBytes marked keyHeader keyLeft) both
+    -- everything is coded; of the parser nothing is left; the same in both modes
+    accepts keyBytes marked keyHeader keyLeft Rust
+    ∷ accepts keyBytes marked keyHeader keyLeft Standard
     -- neither segmentation nor filter adjustments; eight partitions; probabilities for this frame alone
-    ++ map (accepts plainBytes marked plainHeader plainLeft) both
+    ∷ accepts plainBytes marked plainHeader plainLeft Rust
     -- new segment values with no new map; filter adjustments kept as they were
-    ++ map (accepts interBytes fresh interHeader interLeft) both
+    ∷ accepts interBytes fresh interHeader interLeft Rust
     -- a new map with no new values, without the segment probabilities and with them; filter deltas without their flags, and
     -- probabilities, stay as they were
-    ++ accepts keptBytes marked (keptHeader 28 7 209 1265) (keptLeft (3 ∷ 3 ∷ 3 ∷ [])) Rust
+    ∷ accepts keptBytes marked (keptHeader 28 7 209 1265) (keptLeft (3 ∷ 3 ∷ 3 ∷ [])) Rust
     ∷ accepts mapBytes marked (keptHeader 30 4 228 1284) (keptLeft (77 ∷ 255 ∷ 201 ∷ [])) Standard
     ∷ []
-  where
-    both : List Mode
-    both = Rust ∷ Standard ∷ []

@@ -66,9 +66,13 @@ fn look(run: Run, bytes: &[u8], out: &mut [u8]) -> Run {
 
 // From here on in this mode.
 fn switched(run: Run, mode: Mode) -> Run {
-    let mut after = run;
-    after.mode = mode;
-    after
+    let parser = run.parser;
+    Run {
+        parser,
+        mode,
+        looks: run.looks,
+        more: true,
+    }
 }
 
 // The next frame is only looked at.
@@ -79,6 +83,7 @@ fn looking(run: Run) -> Run {
 }
 
 fn record(run: Run, buffer: &mut [u8], out: &mut [u8]) -> Run {
+    let mode = run.mode;
     let taken = vp8_show::input::take(buffer);
     let came = taken.came;
     let count = taken.count;
@@ -89,8 +94,8 @@ fn record(run: Run, buffer: &mut [u8], out: &mut [u8]) -> Run {
             }
             frame(run, &buffer[..count], out)
         }
-        Came::Fresh => fresh(run.mode, run.looks),
-        Came::In(mode) => switched(run, mode),
+        Came::Fresh => fresh(mode, run.looks),
+        Came::In(other) => switched(run, other),
         Came::Look => looking(run),
         Came::End => {
             if run.looks {

@@ -8,8 +8,5 @@ fn main() {
         lines::say(b"too large");
         return;
     }
-    let parsed = vp8_parser::parse(Parser::new(), &frame[..n]);
-    let mut out = [0u8; 1024];
-    let end = vp8_show::print::answer(&mut out, 0, parsed);
-    lines::show(&out, end);
+    vp8_show::print::tell(vp8_parser::parse(Parser::new(), &frame[..n]));
 }

@@ -3,6 +3,7 @@
 // on, and FFFFFFFC that the next frame be only looked at.
 use lines::Number;
 use vp8_records::Mode;
+ghost use mathlib.Core.Path.{_≡_};
 ghost use Rattle.io.specs.Counts.{Counts};
 
 // How the input goes on.

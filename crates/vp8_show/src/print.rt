@@ -106,6 +106,13 @@ pub fn answer(out: &mut [u8], at: usize, parsed: Parsed) -> usize
     text::byte(out, to, b'\n')
 }
 
+// The lines of an answer, on standard output.
+pub fn tell(parsed: Parsed) {
+    let mut out = [0u8; 1024];
+    let end = answer(&mut out, 0, parsed);
+    lines::show(&out, end);
+}
+
 // The line of a look; under 256 bytes.
 pub fn look(out: &mut [u8], at: usize, peeked: Peeked) -> usize
     ensures { λ r. ⌜ text (now (out .exit)) r ≡ puts (text (now (out .entry)) at) (printedLook peeked) ⌝ }

@@ -1,0 +1,106 @@
+-- The worked cases in both modes (docs/RULES.md numbers them): frames, all in one mode over a fresh parser, and what each mode shows of
+-- the last; and where the decoder ends in the standard's mode.
+use Prim.Native.Nat.{ℕ, _^_}
+use mathlib.Core.Bool.{Bool, true, false}
+use mathlib.Core.List.{List, [], _∷_, _++_, map}
+use lib.ListN.{take}
+use Rattle.vp8_records.specs.declared.Mode.{Mode}
+use Rattle.vp8_records.specs.declared.Mode.the-variants.{Rust, Standard}
+use Rattle.vp8_records.specs.declared.Parsed.{Parsed}
+use Rattle.vp8_records.specs.Outcome.{numberOf}
+use Rattle.vp8_records.specs.Start.{fresh}
+use Rattle.rfc6386.specs.Call.{call, after}
+use Rattle.rfc6386_cases.specs.Cases.{key176x144}
+
+-- the refusal, the partitions, the filter's type and level, and the segment probabilities left
+pub record Told : Type 0 where
+  pub number : ℕ
+  pub sizes : List ℕ
+  pub filter : Bool
+  pub level : ℕ
+  pub probs : List ℕ
+
+abbrev pub told : Parsed → Told
+told r =
+    let h = r .header in
+    record {
+      number = numberOf (r .outcome);
+      sizes = take (2 ^ h .«log2_nbr_of_dct_partitions») (h .«partition_size»);
+      filter = h .«filter_type»;
+      level = h .«loop_filter_level»;
+      probs = r .parser .segmentation .«segment_prob»;
+    }
+
+-- frames before it, the frame, and what each mode shows of it
+pub record Twice : Type 0 where
+  pub before : List (List ℕ)
+  pub frame : List ℕ
+  pub rust : Told
+  pub standard : Told
+
+abbrev pub shown : Mode → Twice → Told
+shown md x = told (call md (after fresh (map (λ f. record { mode = md; frame = f }) (x .before))) (x .frame))
+
+abbrev same : ℕ → List ℕ
+same n = n ∷ n ∷ n ∷ []
+
+-- accepted, with no filter and nothing written to the probabilities; or refused
+abbrev plain : List ℕ → Told
+plain sizes = record { number = 0; sizes = sizes; filter = false; level = 0; probs = same 0 }
+
+abbrev refused : ℕ → List ℕ → Told
+refused n probs = record { number = n; sizes = 0 ∷ []; filter = false; level = 0; probs = probs }
+
+abbrev six : List ℕ
+six = key176x144 0x30 ++ (0x00 ∷ 0x00 ∷ [])
+
+abbrev seven : List ℕ
+seven = 0x31 ∷ 0x00 ∷ 0x00 ∷ 0x00 ∷ 0x00 ∷ []
+
+abbrev nine : List ℕ
+nine = 0x51 ∷ 0x00 ∷ 0x00 ∷ 0x00 ∷ 0x04 ∷ 0x00 ∷ 0x00 ∷ []
+
+abbrev eight : List ℕ
+eight = nine ++ (0x00 ∷ 0x00 ∷ [])
+
+abbrev eleven : List ℕ
+eleven = key176x144 0x70 ++ (0x30 ∷ 0x80 ∷ 0x00 ∷ 0x00 ∷ [])
+
+unfoldable pub twice : List Twice
+twice =
+    record { before = []; frame = six; rust = plain (1 ∷ []); standard = plain (1 ∷ []) }
+    ∷ record { before = []; frame = seven; rust = plain (1 ∷ []); standard = plain (1 ∷ []) }
+    ∷ record { before = []; frame = eight; rust = plain (0 ∷ 1 ∷ []); standard = plain (0 ∷ 1 ∷ []) }
+    ∷ record { before = []; frame = nine; rust = refused 5 (same 0); standard = refused 5 (same 0) }
+    -- 10
+    ∷ record { before = []; frame = 0x31 ∷ 0x00 ∷ 0x00 ∷ 0x00 ∷ 0x04 ∷ []; rust = refused 5 (same 0); standard = plain (1 ∷ []) }
+    ∷ record {
+      before = [];
+      frame = eleven;
+      rust = record { number = 0; sizes = 1 ∷ []; filter = false; level = 8; probs = same 0 };
+      standard = record { number = 0; sizes = 1 ∷ []; filter = true; level = 0; probs = same 255 };
+    }
+    -- 12, and 9 after 11
+    ∷ record { before = eleven ∷ []; frame = 0x01 ∷ 0x00 ∷ 0x00 ∷ []; rust = refused 4 (same 0); standard = refused 4 (same 255) }
+    ∷ record { before = eleven ∷ []; frame = nine; rust = refused 5 (same 0); standard = refused 5 (same 255) }
+    -- an empty first partition before a byte
+    ∷ record { before = []; frame = 0x01 ∷ 0x00 ∷ 0x00 ∷ 0x00 ∷ []; rust = plain (1 ∷ []); standard = refused 4 (same 0) }
+    ∷ []
+
+-- a frame, and the bools, range, count and header_size after its header
+pub record Ends : Type 0 where
+  pub frame : List ℕ
+  pub state : List ℕ
+
+abbrev pub ended : Ends → List ℕ
+ended x =
+    let h = call Standard fresh (x .frame) .header in
+    h .bools ∷ h .«bd_range» ∷ h .«bd_count» ∷ h .«header_size» ∷ []
+
+unfoldable pub ends : List Ends
+ends =
+    record { frame = six; state = 1086 ∷ 194 ∷ 5 ∷ 8 ∷ [] }
+    ∷ record { frame = seven; state = 1157 ∷ 178 ∷ 3 ∷ 8 ∷ [] }
+    ∷ record { frame = eight; state = 1157 ∷ 178 ∷ 3 ∷ 16 ∷ [] }
+    ∷ record { frame = eleven; state = 1091 ∷ 194 ∷ 0 ∷ 24 ∷ [] }
+    ∷ []
