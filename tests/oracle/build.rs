@@ -1,5 +1,7 @@
-//! Puts the Rust as given into OUT_DIR, twice: unchanged, and with one line that counts bools.
+//! Puts the Rust as given into OUT_DIR: unchanged, and edited to be the standard's reader; each also with one line that counts bools.
 
+// Half of it serves the slips.
+#[allow(dead_code)]
 #[path = "src/assemble.rs"]
 mod assemble;
 
@@ -18,8 +20,11 @@ fn main() {
     }
     let given = assemble::Given::read(Path::new(&from)).unwrap_or_else(|why| stop(&why));
     let access = here.join("src/access.rs");
+    let standard = given.standard(&[]);
     write(&out.join("plain.rs"), &given.modules("crate::", &access));
     write(&out.join("counted.rs"), &given.counted().modules("crate::counted::", &access));
+    write(&out.join("standard.rs"), &standard.modules("crate::standard::", &access));
+    write(&out.join("standard_counted.rs"), &standard.counted().modules("crate::standard_counted::", &access));
 }
 
 fn write(path: &Path, text: &str) {

@@ -1,14 +1,24 @@
-// Stands inside the Rust's parser module, so that private fields can be read.
+// Stands inside the Rust's parser module, so that private fields can be read and written.
 
 use super::BoolDecoderError;
 use super::ComputePartitionSizesError;
 use super::Header;
+use super::MbLfAdjustments;
+use super::ModeProbs;
 use super::ParseFrameError;
 use super::ParseUncompressedChunkError;
 use super::Parser;
+use super::Segmentation;
 use crate::answer::Answer;
 
-pub fn kept(p: &Parser) -> Vec<u8> {
+/// The kept numbers of a fresh parser.
+// Of the copies that count bools nobody asks.
+#[allow(dead_code)]
+pub fn fresh() -> Vec<u8> {
+    kept(&Parser::default())
+}
+
+fn kept(p: &Parser) -> Vec<u8> {
     let mut out = Vec::with_capacity(crate::answer::KEPT);
     let s = &p.segmentation;
     out.extend([s.segmentation_enabled, s.update_mb_segmentation_map].map(u8::from));
@@ -25,6 +35,37 @@ pub fn kept(p: &Parser) -> Vec<u8> {
     out.extend(p.mode_probs.intra_16x16_prob);
     out.extend(p.mode_probs.intra_chroma_prob);
     out
+}
+
+/// The parser of these kept numbers, which are all that it holds.
+fn load(kept: &[u8]) -> Parser {
+    let flag = |at: usize| kept[at] != 0;
+    let signed = |at: usize| std::array::from_fn(|i| kept[at + i] as i8);
+    let mut p = Parser {
+        segmentation: Segmentation {
+            segmentation_enabled: flag(0),
+            update_mb_segmentation_map: flag(1),
+            update_segment_feature_data: flag(2),
+            segment_feature_mode: flag(3),
+            quantizer_update_value: signed(4),
+            lf_update_value: signed(8),
+            segment_prob: std::array::from_fn(|i| kept[12 + i]),
+        },
+        mb_lf_adjust: MbLfAdjustments {
+            loop_filter_adj_enable: flag(15),
+            mode_ref_lf_delta_update: flag(16),
+            ref_frame_delta: signed(17),
+            mb_mode_delta: signed(21),
+        },
+        mode_probs: ModeProbs {
+            intra_16x16_prob: std::array::from_fn(|i| kept[1119 + i]),
+            intra_chroma_prob: std::array::from_fn(|i| kept[1123 + i]),
+        },
+        ..Parser::default()
+    };
+    p.coeff_prob.as_flattened_mut().as_flattened_mut().as_flattened_mut().copy_from_slice(&kept[25..1081]);
+    p.mv_prob.as_flattened_mut().copy_from_slice(&kept[1081..1119]);
+    p
 }
 
 fn numbers(h: &Header) -> Vec<i64> {
@@ -69,7 +110,7 @@ fn chunk_refusal(why: ParseUncompressedChunkError) -> (u8, u32) {
 }
 
 /// What the chunk alone tells.
-// Of the copy that counts bools, and in the slips, nobody asks.
+// Of the other copies, and in the slips, nobody asks.
 #[allow(dead_code)]
 pub fn look(bytes: &[u8]) -> crate::answer::Look {
     let h = Header::parse_uncompressed_data_chunk(bytes).map_err(chunk_refusal)?;
@@ -77,7 +118,16 @@ pub fn look(bytes: &[u8]) -> crate::answer::Look {
     Ok(crate::answer::SEEN.map(|name| all[crate::answer::at(name)]))
 }
 
-pub fn call(p: &mut Parser, bytes: &[u8]) -> Answer {
+/// A call over the record of these kept numbers. They are handed from call to call, so they have to be the whole record.
+pub fn call(before: &[u8], bytes: &[u8]) -> Answer {
+    let mut p = load(before);
+    assert!(kept(&p) == before, "a record that is not as the numbers that it was made of");
+    let out = parse(&mut p, bytes);
+    assert!(load(&out.kept) == p, "a record that its numbers do not make again");
+    out
+}
+
+fn parse(p: &mut Parser, bytes: &[u8]) -> Answer {
     let refused = |refusal: u8, a: usize, b: usize| Answer {
         refusal,
         a: a as u32,

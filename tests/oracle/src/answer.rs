@@ -1,5 +1,32 @@
 //! The answer to one frame as plain numbers: what is dumped, stored and compared.
 
+/// Whose reading a frame is given. The parser's record has no mode.
+#[derive(Clone, Copy, Debug, PartialEq, Eq)]
+pub enum Mode {
+    Rust,
+    Standard,
+}
+
+/// Both, in the order in which they are told.
+pub const MODES: [Mode; 2] = [Mode::Rust, Mode::Standard];
+
+impl Mode {
+    // In the slips nobody asks.
+    #[allow(dead_code)]
+    pub fn other(self) -> Mode {
+        MODES[1 - self as usize]
+    }
+}
+
+impl std::fmt::Display for Mode {
+    fn fmt(&self, f: &mut std::fmt::Formatter) -> std::fmt::Result {
+        f.write_str(match self {
+            Mode::Rust => "the Rust's mode",
+            Mode::Standard => "the standard's mode",
+        })
+    }
+}
+
 pub const KEPT: usize = 1126;
 pub const PROBS: usize = 1101;
 pub const COEFFS: usize = 1056;

@@ -1,32 +1,39 @@
-//! One parser of the Rust, run twice: unchanged, and with the counting line, which must agree.
+//! One record, read by the Rust or by the standard's reader, each run twice: as it is, and with the counting line, which must agree.
 
-use crate::answer::{Answer, BOOLS};
-use crate::codec::vp8::parser as plain;
-use crate::counted::codec::vp8::parser as counted;
+use crate::answer::{Answer, Mode, BOOLS};
+use crate::codec::vp8::parser::access as plain;
+use crate::counted::codec::vp8::parser::access as counted;
+use crate::standard::codec::vp8::parser::access as standard;
+use crate::standard_counted::codec::vp8::parser::access as standard_counted;
 
+#[derive(Clone)]
 pub struct Engine {
-    plain: plain::Parser,
-    counted: counted::Parser,
+    kept: Vec<u8>,
 }
 
 impl Engine {
     pub fn new() -> Engine {
-        Engine { plain: Default::default(), counted: Default::default() }
+        Engine { kept: plain::fresh() }
     }
 
-    pub fn kept(&self) -> Vec<u8> {
-        plain::access::kept(&self.plain)
+    pub fn kept(&self) -> &[u8] {
+        &self.kept
     }
 
-    pub fn call(&mut self, frame: &[u8]) -> Answer {
-        let mut answer = plain::access::call(&mut self.plain, frame);
+    pub fn call(&mut self, mode: Mode, frame: &[u8]) -> Answer {
+        let (reader, counting): (fn(&[u8], &[u8]) -> Answer, fn(&[u8], &[u8]) -> Answer) = match mode {
+            Mode::Rust => (plain::call, counted::call),
+            Mode::Standard => (standard::call, standard_counted::call),
+        };
+        let mut answer = reader(&self.kept, frame);
         crate::tally::clear();
-        let other = counted::access::call(&mut self.counted, frame);
+        let other = counting(&self.kept, frame);
         assert!(answer == other, "the counting copy answers otherwise");
         if answer.refusal == 0 {
             assert!(answer.view == frame.len(), "the frame's view is not the whole frame");
             answer.numbers[BOOLS] = crate::tally::read();
         }
+        self.kept.clone_from(&answer.kept);
         answer
     }
 }

@@ -1,6 +1,6 @@
 //! Frames and scripts to try: the kinds from which the fixed lists and the generated runs are made.
 
-use crate::answer::{COEFFS, MOTION};
+use crate::answer::{Mode, COEFFS, MOTION};
 use crate::bare::Read;
 use crate::codec::vp8::probs::{COEFF_DEFAULT_PROBS, MV_DEFAULT_PROBS, NK_UV_MODE_PROBS, NK_Y_MODE_PROBS};
 use crate::engine::Engine;
@@ -24,7 +24,7 @@ pub fn streams(folder: &Path) -> Result<Vec<Stream>, String> {
 
 /// A real frame with at most `keep` bytes of its last partition; the rest of it has no say in the header.
 pub fn shortened(frame: &[u8], keep: usize) -> Frame {
-    let answer = Engine::new().call(frame);
+    let answer = Engine::new().call(Mode::Rust, frame);
     if answer.refusal != 0 {
         return frame.to_vec();
     }
@@ -373,6 +373,78 @@ pub fn sequence(rng: &mut Rng, streams: &[Stream]) -> Vec<Frame> {
         };
         assert!(frame.len() <= LONGEST, "a frame longer than the dump takes");
         out.push(frame);
+    }
+    out
+}
+
+/// A frame whose first partition has the first so many bytes of the header's code, with zeros where that has fewer. Either the code
+/// goes on after it, or the table of sizes and the partitions stand there, as a reader expects that is held to the first partition.
+pub fn ended(rng: &mut Rng, s: &Spec, first: usize, goes_on: bool) -> Frame {
+    let (code, _) = s.header();
+    let mut f = s.chunk(first as u32);
+    f.extend(code.iter().chain(std::iter::repeat(&0)).take(first));
+    if goes_on {
+        f.extend(code.iter().skip(first));
+        f.extend(few(rng));
+    } else {
+        let sizes: Vec<u8> = (1..1 << s.log2).map(|_| rng.below(4) as u8).collect();
+        sizes.iter().for_each(|size| f.extend([*size, 0, 0]));
+        let sum: usize = sizes.iter().map(|size| *size as usize).sum();
+        f.extend(rng.bytes(sum));
+        f.extend(few(rng));
+    }
+    f
+}
+
+/// A header with the map flag set, feature data or not, and its probabilities coded as either mode reads them.
+pub fn mapped(rng: &mut Rng, key: bool, data: bool, by_map: bool) -> Spec {
+    let updates = rng.pick(&[0, 1, 4]);
+    Spec { seg: true, seg_map: true, seg_data: data, by_map, ..drawn(rng, key, updates) }
+}
+
+/// A frame at which the modes part, or nearly do: by the map flag, or by where the first partition ends.
+pub fn parting(rng: &mut Rng, key: bool) -> Frame {
+    match rng.below(8) {
+        0..=2 => {
+            let (data, by_map) = (rng.one_in(4), rng.flip());
+            let s = mapped(rng, key, data, by_map);
+            whole(rng, &s)
+        }
+        3 | 4 => {
+            let (data, by_map) = (rng.flip(), rng.flip());
+            let s = if rng.flip() { mapped(rng, key, data, by_map) } else { drawn(rng, key, 2) };
+            let length = s.header().0.len();
+            let (any, goes_on) = (rng.range(0, length), rng.flip());
+            let first = rng.pick(&[any, any, any, length - 1, length - 2, length + 1]);
+            ended(rng, &s, first, goes_on)
+        }
+        5 => {
+            let length = rng.range(0, 8);
+            let mut f = drawn(rng, key, 0).chunk(0);
+            f.extend(rng.bytes(length));
+            f
+        }
+        6 => {
+            let (first, more) = (rng.range(1, 3), rng.range(0, 24));
+            let mut f = drawn(rng, key, 0).chunk(first as u32);
+            f.extend(rng.bytes(first + more));
+            f
+        }
+        _ => {
+            let length = rng.range(1, 40);
+            let area = if rng.flip() { ff_area(rng, length) } else { rng.bytes(length) };
+            over_area(rng, key, &area)
+        }
+    }
+}
+
+/// One drawn sequence of 1 to 8 frames at which the modes part, with refusals among them.
+pub fn partings(rng: &mut Rng) -> Vec<Frame> {
+    let frames = rng.range(1, 8);
+    let mut out = if rng.flip() { vec![touch(rng)] } else { Vec::new() };
+    while out.len() < frames {
+        let (key, number) = (rng.one_in(3), rng.range(1, 5) as u8);
+        out.push(if rng.one_in(6) { refused(rng, number, key) } else { parting(rng, key) });
     }
     out
 }

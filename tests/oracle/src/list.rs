@@ -1,7 +1,8 @@
-//! The fixed lists: which frames and scripts, and how they are stored with the Rust's answers.
+//! The fixed lists: which frames and scripts, and how they are stored with the answers.
 
-use crate::answer::{Answer, KEPT, NUMBERS};
+use crate::answer::{Answer, Mode, KEPT, NUMBERS};
 use crate::bare::{self, Read};
+use crate::both;
 use crate::engine::Engine;
 use crate::gen::{self, Frame, Stream};
 use crate::rng::Rng;
@@ -9,8 +10,8 @@ use crate::rules::{self, Rules};
 use crate::spec::Spec;
 use crate::stats::{Scripts, Stats};
 
-/// A frame with its number among the worked cases of docs/RULES.md (0: none).
-pub type Item = (u8, Frame);
+/// A frame with its number among the worked cases of docs/RULES.md (0: none) and the mode in which it is read.
+pub type Item = (u8, Mode, Frame);
 
 /// The list's sequences, and with which sequence each part of it begins.
 pub struct Fixed {
@@ -25,10 +26,21 @@ fn with_k(front: [u8; 3], back: &[u8]) -> Frame {
     [&front[..], &K, back].concat()
 }
 
+/// The frames of cases 9, 11 and 12.
+pub fn case9() -> Frame {
+    vec![0x51, 0, 0, 0, 0x04, 0, 0]
+}
+
+pub fn case11() -> Frame {
+    with_k([0x70, 0, 0], &[0x30, 0x80, 0, 0])
+}
+
+pub fn case12() -> Frame {
+    vec![0x01, 0, 0]
+}
+
 /// The worked cases, and the one that is named among the slips beside them.
-fn cases() -> Vec<Vec<Item>> {
-    let case9 = vec![0x51, 0, 0, 0, 0x04, 0, 0];
-    let case11 = with_k([0x70, 0, 0], &[0x30, 0x80, 0, 0]);
+fn cases() -> Vec<Numbered> {
     vec![
         vec![(1, vec![])],
         vec![(1, vec![0, 0])],
@@ -39,29 +51,38 @@ fn cases() -> Vec<Vec<Item>> {
         vec![(6, with_k([0x30, 0, 0], &[0, 0]))],
         vec![(7, vec![0x31, 0, 0, 0, 0])],
         vec![(8, vec![0x51, 0, 0, 0, 0x04, 0, 0, 0, 0])],
-        vec![(9, case9.clone())],
+        vec![(9, case9())],
         vec![(10, vec![0x31, 0, 0, 0, 0x04])],
-        vec![(11, case11.clone())],
-        vec![(11, case11.clone()), (12, vec![0x01, 0, 0])],
-        vec![(11, case11), (0, case9)],
+        vec![(11, case11())],
+        vec![(11, case11()), (12, case12())],
+        vec![(11, case11()), (0, case9())],
     ]
 }
 
 /// The outcome of a worked case, from the table of docs/RULES.md.
-fn as_listed(case: u8, a: &Answer) -> bool {
+fn as_listed(case: u8, mode: Mode, a: &Answer) -> bool {
     let shows = |want: &[(&str, i64)]| a.refusal == 0 && want.iter().all(|(name, v)| a.get(name) == *v);
+    let standard = mode == Mode::Standard;
+    // By the standard the position stops at the first partition's end.
+    let stops = |at| !standard || shows(&[("hsize", at)]);
+    let segment = if standard { [255; 3] } else { [0; 3] };
     match case {
         0 => true,
         1 | 2 => a.refusal == 1,
         3 => (a.refusal, a.a) == (2, 0x2b019d),
         4 => (a.refusal, a.a, a.b) == (3, 11, 10) && a.kept == Engine::new().kept(),
         5 => a.refusal == 4 && a.kept == Engine::new().kept(),
-        6 => shows(&[("n", 1), ("part0", 1), ("bools", 1086), ("hsize", 16), ("value", 0)]),
-        7 => shows(&[("part0", 1), ("bools", 1157)]),
-        8 => shows(&[("n", 2), ("part0", 0), ("part1", 1)]),
+        6 => shows(&[("n", 1), ("part0", 1), ("bools", 1086), ("hsize", if standard { 8 } else { 16 }), ("value", 0)]),
+        7 => shows(&[("part0", 1), ("bools", 1157)]) && stops(8),
+        8 => shows(&[("n", 2), ("part0", 0), ("part1", 1)]) && stops(16),
+        10 if standard => shows(&[("n", 1), ("part0", 1)]),
         9 | 10 => a.refusal == 5,
-        11 => shows(&[("ft", 0), ("lvl", 8)]) && a.kept[..3] == [1, 1, 0],
-        12 => a.refusal == 4 && a.kept[..3] == [1, 0, 0],
+        11 if standard => {
+            let after = [("bools", 1091), ("range", 194), ("count", 0), ("hsize", 24)];
+            shows(&[("ft", 1), ("lvl", 0)]) && shows(&after) && a.kept[..3] == [1, 1, 0] && a.kept[12..15] == segment
+        }
+        11 => shows(&[("ft", 0), ("lvl", 8)]) && a.kept[..3] == [1, 1, 0] && a.kept[12..15] == segment,
+        12 => a.refusal == 4 && a.kept[..3] == [1, 0, 0] && a.kept[12..15] == segment,
         _ => false,
     }
 }
@@ -80,8 +101,8 @@ fn line_listed(case: u8) -> Option<&'static str> {
 }
 
 /// A well formed frame is read back and held against what was written, so that the writer is tried too.
-fn written(spec: &Spec, frame: Frame) -> Frame {
-    let answer = Engine::new().call(&frame);
+pub fn written(mode: Mode, spec: &Spec, frame: Frame) -> Frame {
+    let answer = Engine::new().call(mode, &frame);
     assert!(answer.refusal == 0 && spec.shown(&answer), "the writer wrote another header");
     frame
 }
@@ -90,7 +111,7 @@ fn written(spec: &Spec, frame: Frame) -> Frame {
 fn accepted(rng: &mut Rng, draw: impl Fn(&mut Rng) -> Frame) -> Frame {
     let mut frame = draw(rng);
     for _ in 0..300 {
-        if Engine::new().call(&frame).refusal == 0 {
+        if Engine::new().call(Mode::Rust, &frame).refusal == 0 {
             break;
         }
         frame = draw(rng);
@@ -98,19 +119,32 @@ fn accepted(rng: &mut Rng, draw: impl Fn(&mut Rng) -> Frame) -> Frame {
     frame
 }
 
-/// All sequences of the fixed list.
+/// All sequences of the fixed list: those of the Rust's mode, and after them the others.
 pub fn sequences(streams: &[Stream]) -> Fixed {
+    let (plain, parts) = of_the_rust(streams);
+    let mut out = Fixed { sequences: plain.iter().map(|s| both::all(Mode::Rust, s)).collect(), parts };
+    both::add(&mut out, &plain);
+    out
+}
+
+/// A short inter frame that leaves segmentation and filter adjustments off.
+pub fn inter(rng: &mut Rng) -> Frame {
+    let s = Spec { seg: false, adj: false, log2: 0, ..gen::drawn(rng, false, 0) };
+    written(Mode::Rust, &s, s.frame(&[], &[]))
+}
+
+/// A sequence's frames with their case numbers.
+pub type Numbered = Vec<(u8, Frame)>;
+
+/// The sequences of the Rust's mode, and with which of them each part begins.
+fn of_the_rust(streams: &[Stream]) -> (Vec<Numbered>, Vec<(usize, &'static str)>) {
     let rng = &mut Rng::new(0x5111_b200);
     let mut out = cases();
     let mut parts = vec![(1, "the worked cases, and case 9 after case 11")];
-    let plain = |frames: Vec<Frame>| frames.into_iter().map(|f| (0, f)).collect::<Vec<Item>>();
-    let inter = |rng: &mut Rng| {
-        let s = Spec { seg: false, adj: false, log2: 0, ..gen::drawn(rng, false, 0) };
-        written(&s, s.frame(&[], &[]))
-    };
+    let plain = |frames: Vec<Frame>| frames.into_iter().map(|f| (0, f)).collect::<Numbered>();
     let full = |rng: &mut Rng, key: bool, keep: bool| {
         let s = Spec { keep, log2: 0, ..gen::most(rng, key) };
-        written(&s, s.frame(&[], &[]))
+        written(Mode::Rust, &s, s.frame(&[], &[]))
     };
 
     // Every refusal over a parser whose every kept number has changed.
@@ -133,7 +167,7 @@ pub fn sequences(streams: &[Stream]) -> Fixed {
     }
     for key in [true, false] {
         let s = Spec::least(key);
-        out.push(plain(vec![gen::touch(rng), written(&s, s.frame(&[], &[])), inter(rng)]));
+        out.push(plain(vec![gen::touch(rng), written(Mode::Rust, &s, s.frame(&[], &[])), inter(rng)]));
     }
 
     // Every refusal over a parser of which every kind of number has changed, many times over.
@@ -271,7 +305,7 @@ pub fn sequences(streams: &[Stream]) -> Fixed {
             // Each delta lengthens the header by five bits, each coefficient by more.
             (0..i % 6).for_each(|d| s.q_deltas[d.min(4)] = Some((9, d % 2 == 0)));
             (0..turn).for_each(|c| _ = s.coeff.insert(7 + 40 * c, rng.byte()));
-            frames.push(written(&s, s.frame(&[], &[0xff, 0xff])));
+            frames.push(written(Mode::Rust, &s, s.frame(&[], &[0xff, 0xff])));
         }
         out.push(plain(frames));
     }
@@ -285,7 +319,7 @@ pub fn sequences(streams: &[Stream]) -> Fixed {
             s.width = [0, 1, 15, 16, 17, 31, 8192, 16_383][(version + i) as usize % 8];
             s.height = [16_383, 0, 16, 47, 4095, 1, 15, 1080][version as usize];
             (s.hscale, s.vscale) = (version % 4, (version / 2 + i) % 4);
-            frames.push(written(&s, s.frame(&[], &[7])));
+            frames.push(written(Mode::Rust, &s, s.frame(&[], &[7])));
         }
         out.push(plain(frames));
     }
@@ -298,7 +332,7 @@ pub fn sequences(streams: &[Stream]) -> Fixed {
             let updates = rng.pick(&[0, 1, 3, 8]);
             let key = (turn % 4 != 0 && i == 0) || rng.one_in(8);
             let s = gen::drawn(rng, key, updates);
-            frames.push(written(&s, gen::whole(rng, &s)));
+            frames.push(written(Mode::Rust, &s, gen::whole(rng, &s)));
         }
         out.push(plain(frames));
     }
@@ -368,7 +402,7 @@ pub fn sequences(streams: &[Stream]) -> Fixed {
             out.push(plain(frames));
         }
     }
-    Fixed { sequences: out, parts }
+    (out, parts)
 }
 
 fn patch(out: &mut Vec<u8>, old: &[u8], new: &[u8]) {
@@ -382,7 +416,7 @@ fn patch(out: &mut Vec<u8>, old: &[u8], new: &[u8]) {
 
 /// The bytes of the list of frames, and what they reach. Every answer is held against the rules.
 pub fn frames(sequences: &[Vec<Item>]) -> (Vec<u8>, Stats) {
-    let fresh = Engine::new().kept();
+    let fresh = Engine::new().kept().to_vec();
     assert_eq!(fresh.len(), KEPT);
     let mut out = b"SBFRAME1".to_vec();
     out.extend(&fresh);
@@ -393,13 +427,19 @@ pub fn frames(sequences: &[Vec<Item>]) -> (Vec<u8>, Stats) {
         let (mut engine, mut rules) = (Engine::new(), Rules::new());
         let (mut kept, mut probs) = (fresh.clone(), fresh[25..].to_vec());
         stats.sequence(sequence.len());
-        for (case, frame) in sequence {
+        for item in sequence {
+            let (case, mode, frame) = item;
             total += 1;
-            let answer = engine.call(frame);
-            agree(&answer, &rules.call(frame), frame);
-            assert!(as_listed(*case, &answer), "case {case} is not as docs/RULES.md lists it");
-            stats.frame(*case, frame, &kept, &fresh, &answer);
-            out.extend([2, *case]);
+            let other = engine.clone().call(mode.other(), frame);
+            let answer = engine.call(*mode, frame);
+            agree(*mode, &answer, &rules.call(*mode, frame), frame);
+            assert!(as_listed(*case, *mode, &answer), "case {case} in {mode} is not as docs/RULES.md lists it");
+            stats.frame(item, &kept, &fresh, &answer, &other);
+            let kind = match mode {
+                Mode::Rust => 2,
+                Mode::Standard => 3,
+            };
+            out.extend([kind, *case]);
             out.extend((frame.len() as u32).to_le_bytes());
             out.extend(frame);
             out.push(answer.refusal);
@@ -423,10 +463,10 @@ pub fn frames(sequences: &[Vec<Item>]) -> (Vec<u8>, Stats) {
     (out, stats)
 }
 
-/// Stops where the Rust and the rules part.
-pub fn agree(rust: &Answer, rules: &Answer, frame: &[u8]) {
-    if rust != rules {
-        eprintln!("the Rust and the rules part on the frame {frame:02x?}");
+/// Stops where a reader and the rules part.
+pub fn agree(mode: Mode, reader: &Answer, rules: &Answer, frame: &[u8]) {
+    if reader != rules {
+        eprintln!("the reader and the rules part in {mode} on the frame {frame:02x?}");
         std::process::exit(1);
     }
 }

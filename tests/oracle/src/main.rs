@@ -16,11 +16,22 @@ pub mod counted {
     include!(concat!(env!("OUT_DIR"), "/counted.rs"));
 }
 
+/// The standard's reader: the Rust with the edits of assemble.rs.
+pub mod standard {
+    include!(concat!(env!("OUT_DIR"), "/standard.rs"));
+}
+
+/// The same with that line more.
+pub mod standard_counted {
+    include!(concat!(env!("OUT_DIR"), "/standard_counted.rs"));
+}
+
 mod answer;
 // Half of it serves build.rs only.
 #[allow(dead_code)]
 mod assemble;
 mod bare;
+mod both;
 mod encode;
 mod engine;
 mod gen;
@@ -35,7 +46,7 @@ mod spec;
 mod stats;
 mod tally;
 
-use answer::{Answer, COEFFS, MOTION, NUMBERS};
+use answer::{Answer, Mode, COEFFS, MOTION, NUMBERS};
 use engine::Engine;
 use rng::Rng;
 use std::io::{BufRead, Read, Write};
@@ -44,16 +55,19 @@ use std::path::PathBuf;
 const USAGE: &str = "usage: tests/oracle/run COMMAND
   dump                       answers to frame records on standard input, one line a frame
   bools                      answers to scripts on standard input, one line a script
-  check                      holds the Rust against the rules on frame records on standard input
-  gen frames --seed S --count N [--streams DIR]   writes frame records
-  gen bools --seed S --count N                    writes scripts
+  check                      holds the Rust and the standard's reader against the rules on frame records on standard input
+  standard                   what the standard's reader has otherwise than the Rust
+  gen frames --seed S --count N [--streams DIR] [--parting]   writes frame records; with half of them at which the modes part
+  gen bools --seed S --count N                                writes scripts
+  modes standard             frame records again, all in the standard's mode
+  modes mixed SEED           frame records again, with the mode drawn from frame to frame
   looks [--prefixes]         frame records again, with a look at each frame before it; and at its first 0 to 12 bytes
   records [FILE..]           writes the frames of recordings as frame records (all recordings where none is named)
   list                       writes the fixed list of frames (needs the recordings)
   scripts                    writes the fixed list of scripts
   stats                      what both fixed lists reach (needs the recordings)
   stats -                    what frame records on standard input reach
-  replay FRAMES BOOLS        replays both stored lists on the Rust
+  replay FRAMES BOOLS        replays both stored lists on the Rust and the standard's reader
   slips DIR                  writes one program for each slip into DIR";
 
 fn stop(code: i32, why: &str) -> ! {
@@ -103,16 +117,27 @@ fn line(a: &Answer) -> String {
     format!("{out} st={kept}")
 }
 
-/// A frame record: a fresh parser, a frame, one that is only looked at, or why there are no more.
+/// A frame record: a fresh parser, the mode from here on, a frame, one that is only looked at, or why there are no more.
 enum Record {
     Fresh,
+    Mode(Mode),
     Frame(Vec<u8>),
     Look(Vec<u8>),
     End(Option<&'static str>),
 }
 
-/// Stands before a frame that is only looked at.
+/// The words that stand in place of a length: a fresh parser, each mode from here on, and that the next frame is only looked at.
+const FRESH: u32 = 0xffff_ffff;
+const STANDARD: u32 = 0xffff_fffe;
+const RUST: u32 = 0xffff_fffd;
 const LOOK: u32 = 0xffff_fffc;
+
+fn word(mode: Mode) -> u32 {
+    match mode {
+        Mode::Rust => RUST,
+        Mode::Standard => STANDARD,
+    }
+}
 
 /// That many bytes; none if there are fewer.
 fn take(input: &mut impl Read, n: usize) -> Option<Vec<u8>> {
@@ -137,28 +162,40 @@ struct Records {
     input: std::io::StdinLock<'static>,
     /// Whether the next frame is only looked at.
     looks: bool,
+    /// The mode of the next frame. A fresh parser keeps it.
+    mode: Mode,
 }
 
 impl Records {
     fn new() -> Records {
-        Records { input: std::io::stdin().lock(), looks: false }
+        Records { input: std::io::stdin().lock(), looks: false, mode: Mode::Rust }
     }
 
     fn next(&mut self) -> Record {
         let cut = Record::End(Some("cut short"));
         loop {
-            match length(&mut self.input) {
+            let n = match length(&mut self.input) {
                 Err(None) if self.looks => return cut,
                 Err(end) => return Record::End(end),
-                Ok(0xffff_ffff) => return Record::Fresh,
-                Ok(n) if n == LOOK as usize => self.looks = true,
-                Ok(n) if n > gen::LONGEST => return Record::End(Some("too large")),
-                Ok(n) => {
+                Ok(n) => n,
+            };
+            match n as u32 {
+                FRESH => return Record::Fresh,
+                STANDARD => return self.turned(Mode::Standard),
+                RUST => return self.turned(Mode::Rust),
+                LOOK => self.looks = true,
+                _ if n > gen::LONGEST => return Record::End(Some("too large")),
+                _ => {
                     let wrap = if std::mem::take(&mut self.looks) { Record::Look } else { Record::Frame };
                     return take(&mut self.input, n).map_or(cut, wrap);
                 }
             }
         }
+    }
+
+    fn turned(&mut self, mode: Mode) -> Record {
+        self.mode = mode;
+        Record::Mode(mode)
     }
 }
 
@@ -168,8 +205,9 @@ fn dump() {
     loop {
         match input.next() {
             Record::Fresh => engine = Engine::new(),
-            Record::Frame(f) => emit(format!("{}\n", line(&engine.call(&f))).as_bytes()),
-            Record::Look(f) => emit(format!("{}\n", look::line(&f)).as_bytes()),
+            Record::Mode(_) => {}
+            Record::Frame(f) => emit(format!("{}\n", line(&engine.call(input.mode, &f))).as_bytes()),
+            Record::Look(f) => emit(format!("{}\n", look::line(input.mode, &f)).as_bytes()),
             Record::End(None) => return,
             Record::End(Some(why)) => return emit(format!("{why}\n").as_bytes()),
         }
@@ -182,11 +220,12 @@ fn check() {
     loop {
         match input.next() {
             Record::Fresh => (engine, rules) = (Engine::new(), rules::Rules::new()),
+            Record::Mode(_) => {}
             Record::Frame(f) => {
                 frames += 1;
-                list::agree(&engine.call(&f), &rules.call(&f), &f);
+                list::agree(input.mode, &engine.call(input.mode, &f), &rules.call(input.mode, &f), &f);
             }
-            Record::Look(f) => drop(look::look(&f)),
+            Record::Look(f) => drop(look::look(input.mode, &f)),
             Record::End(None) => break,
             Record::End(Some(why)) => stop(1, why),
         }
@@ -199,8 +238,8 @@ fn reached() {
     let (mut sequences, mut frames) = (Vec::new(), Vec::new());
     loop {
         match input.next() {
-            Record::Frame(f) => frames.push((0, f)),
-            Record::Look(_) => {}
+            Record::Frame(f) => frames.push((0, input.mode, f)),
+            Record::Mode(_) | Record::Look(_) => {}
             Record::Fresh => sequences.push(std::mem::take(&mut frames)),
             Record::End(None) => break,
             Record::End(Some(why)) => stop(1, why),
@@ -218,26 +257,57 @@ fn frame_record(out: &mut Vec<u8>, f: &[u8]) {
     out.extend(f);
 }
 
-/// The same records, with a look at each frame before it is parsed, and with `prefixes` one at its first 0 to 12 bytes each.
-fn looks(prefixes: bool) {
+fn look_record(out: &mut Vec<u8>, f: &[u8]) {
+    out.extend(LOOK.to_le_bytes());
+    frame_record(out, f);
+}
+
+/// The records of standard input again, each as `put` writes it.
+fn again(mut put: impl FnMut(Record, &mut Vec<u8>)) {
     let mut input = Records::new();
     loop {
         let mut out = Vec::new();
         match input.next() {
-            Record::Fresh => out.extend([0xff; 4]),
-            Record::Look(_) => {}
-            Record::Frame(f) => {
-                let short = (0..=f.len().min(12)).filter(|_| prefixes).map(|n| &f[..n]);
-                for part in short.chain([&f[..]]) {
-                    out.extend(LOOK.to_le_bytes());
-                    frame_record(&mut out, part);
-                }
-                frame_record(&mut out, &f);
-            }
+            Record::Fresh => out.extend(FRESH.to_le_bytes()),
             Record::End(None) => return,
             Record::End(Some(why)) => stop(1, why),
+            record => put(record, &mut out),
         }
         emit(&out);
+    }
+}
+
+/// The same records, with a look at each frame before it is parsed, and with `prefixes` one at its first 0 to 12 bytes each.
+fn looks(prefixes: bool) {
+    again(|record, out| match record {
+        Record::Mode(mode) => out.extend(word(mode).to_le_bytes()),
+        Record::Frame(f) => {
+            let short = (0..=f.len().min(12)).filter(|_| prefixes).map(|n| &f[..n]);
+            short.chain([&f[..]]).for_each(|part| look_record(out, part));
+            frame_record(out, &f);
+        }
+        _ => {}
+    });
+}
+
+/// The same records with modes of our own: before each frame that of `draw`, if it gives one.
+fn modes(mut draw: impl FnMut() -> Option<Mode>) {
+    again(|record, out| match record {
+        Record::Frame(f) => {
+            draw().into_iter().for_each(|mode| out.extend(word(mode).to_le_bytes()));
+            frame_record(out, &f);
+        }
+        Record::Look(f) => look_record(out, &f),
+        _ => {}
+    });
+}
+
+/// What the standard's reader has otherwise than the Rust.
+fn standard() {
+    let given = assemble::Given::found().unwrap_or_else(|why| stop(2, &why));
+    for (name, edits) in assemble::STANDARD {
+        println!("{name}");
+        given.changes(&given.edited(edits)).lines().for_each(|l| println!("     {l}"));
     }
 }
 
@@ -286,13 +356,14 @@ fn gen_frames(arguments: &[String]) {
     let (seed, count) = (whole_number(arguments, "--seed"), whole_number(arguments, "--count"));
     let streams = option(arguments, "--streams")
         .map_or(Vec::new(), |d| gen::streams(&PathBuf::from(d)).unwrap_or_else(|why| stop(2, &why)));
+    let parting = arguments.iter().any(|a| a == "--parting");
     let rng = &mut Rng::new(seed);
     let mut left = count as usize;
     while left > 0 {
-        let mut frames = gen::sequence(rng, &streams);
+        let mut frames = if parting && rng.flip() { gen::partings(rng) } else { gen::sequence(rng, &streams) };
         frames.truncate(left);
         left -= frames.len();
-        let mut out = vec![0xff; 4];
+        let mut out = FRESH.to_le_bytes().to_vec();
         for f in frames {
             frame_record(&mut out, &f);
         }
@@ -322,7 +393,7 @@ fn records(files: &[String]) {
     };
     let mut skipped = 0;
     for recording in all.unwrap_or_else(|why| stop(2, &why)) {
-        let mut out = vec![0xff; 4];
+        let mut out = FRESH.to_le_bytes().to_vec();
         for f in recording.frames {
             if f.len() > gen::LONGEST {
                 eprintln!("{}: a frame of {} bytes is left out", recording.path.display(), f.len());
@@ -362,12 +433,21 @@ fn main() {
         ["check"] => check(),
         ["gen", "frames", ..] => gen_frames(&arguments[2..]),
         ["gen", "bools", ..] => gen_bools(&arguments[2..]),
+        ["standard"] => standard(),
+        ["modes", "standard"] => {
+            emit(&STANDARD.to_le_bytes());
+            modes(|| None);
+        }
+        ["modes", "mixed", seed] => {
+            let rng = &mut Rng::new(seed.parse().unwrap_or_else(|_| stop(2, USAGE)));
+            modes(|| rng.pick(&[None, Some(Mode::Rust), Some(Mode::Standard)]));
+        }
         ["looks"] => looks(false),
         ["looks", "--prefixes"] => looks(true),
         ["records", ..] => records(&arguments[1..]),
         ["list"] => {
             let (bytes, stats) = list::frames(&fixed_list().sequences);
-            fixed(&bytes, 2_000_000, stats.missing());
+            fixed(&bytes, 1_600_000, stats.missing());
         }
         ["scripts"] => {
             let (bytes, stats) = list::bools(&list::scripts());
@@ -385,7 +465,7 @@ fn main() {
             println!("lacking: {:?}", scripts.missing());
         }
         ["stats", "-"] => reached(),
-        ["replay", ..] => std::process::exit(replay::main(&arguments[1..])),
+        ["replay", ..] => std::process::exit(replay::main(&arguments[1..], &[])),
         ["slips", folder] => slips::write(&PathBuf::from(folder)),
         _ => stop(2, USAGE),
     }

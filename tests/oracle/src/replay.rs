@@ -1,8 +1,9 @@
-//! Replays the stored lists on the Rust that this program was built with, and tells the first difference of each.
+//! Replays the stored lists on the Rust and the standard's reader that this program was built with, and tells the first difference of
+//! each mode's frames and of the scripts.
 
-use crate::answer::{Answer, BOOLS, KEPT, NUMBERS, PROBS};
-use crate::codec::vp8::parser::access;
-use crate::codec::vp8::parser::Parser;
+use crate::answer::{Answer, Mode, BOOLS, KEPT, NUMBERS, PROBS};
+use crate::codec::vp8::parser::access as plain;
+use crate::standard::codec::vp8::parser::access as standard;
 
 /// Reads a stored list; a list cut short is a fault of the list, so it stops.
 struct Bytes<'a>(&'a [u8]);
@@ -10,8 +11,7 @@ struct Bytes<'a>(&'a [u8]);
 impl<'a> Bytes<'a> {
     fn take(&mut self, n: usize) -> &'a [u8] {
         if self.0.len() < n {
-            eprintln!("a list that ends too early");
-            std::process::exit(2);
+            stop("a list that ends too early");
         }
         let (head, tail) = self.0.split_at(n);
         self.0 = tail;
@@ -30,10 +30,14 @@ impl<'a> Bytes<'a> {
     }
 }
 
+fn stop(why: &str) -> ! {
+    eprintln!("{why}");
+    std::process::exit(2)
+}
+
 fn magic(list: &mut Bytes, want: &[u8]) {
     if list.take(8) != want {
-        eprintln!("not a list of this kind");
-        std::process::exit(2);
+        stop("not a list of this kind");
     }
 }
 
@@ -67,74 +71,92 @@ fn guarded<T>(run: impl FnOnce() -> T) -> Option<T> {
     std::panic::catch_unwind(std::panic::AssertUnwindSafe(run)).ok()
 }
 
-/// The number of frames and the first difference.
-fn frames(bytes: &[u8]) -> (usize, Option<String>) {
+/// How many there were, and the first difference.
+#[derive(Default)]
+struct Found {
+    count: usize,
+    first: Option<String>,
+}
+
+/// The answer stored after a frame; both patches are applied to what was expected before it.
+fn stored(list: &mut Bytes, probs: &mut [u8], kept: &mut [u8]) -> Answer {
+    let mut want = Answer { refusal: list.number(1) as u8, ..Answer::default() };
+    want.a = list.number(4) as u32;
+    want.b = list.number(4) as u32;
+    if want.refusal == 0 {
+        want.numbers = NUMBERS.iter().map(|(_, w)| list.number(*w) as i64).collect();
+        list.patch(probs);
+        want.probs = probs.to_vec();
+    }
+    list.patch(kept);
+    want.kept = kept.to_vec();
+    want
+}
+
+/// The frames of each mode.
+fn frames(bytes: &[u8]) -> [Found; 2] {
     let mut list = Bytes(bytes);
     magic(&mut list, b"SBFRAME1");
     let fresh = list.take(KEPT).to_vec();
-    if access::kept(&Parser::default()) != fresh {
-        return (0, Some("the kept numbers of a fresh parser".into()));
-    }
-    let mut start = fresh[25..].to_vec();
-    start.truncate(PROBS);
+    let start = fresh[25..25 + PROBS].to_vec();
+    let mut found = [plain::fresh(), standard::fresh()].map(|f| Found {
+        first: (f != fresh).then(|| "the kept numbers of a fresh parser".to_string()),
+        ..Found::default()
+    });
     let (mut kept, mut probs) = (fresh.clone(), start.clone());
-    let mut parser = Parser::default();
-    let (mut sequences, mut frames, mut within) = (0, 0, 0);
+    let (mut sequences, mut within) = (0, 0);
     loop {
         match list.number(1) {
             1 => {
-                parser = Parser::default();
                 (kept, probs) = (fresh.clone(), start.clone());
                 sequences += 1;
                 within = 0;
             }
-            2 => {
-                frames += 1;
+            kind @ (2 | 3) => {
+                let (mode, reader): (_, fn(&[u8], &[u8]) -> Answer) = match kind {
+                    2 => (Mode::Rust, plain::call),
+                    _ => (Mode::Standard, standard::call),
+                };
                 within += 1;
+                let found = &mut found[mode as usize];
+                found.count += 1;
                 let case = list.number(1);
                 let length = list.number(4);
                 let frame = list.take(length);
-                let mut want = Answer { refusal: list.number(1) as u8, ..Answer::default() };
-                want.a = list.number(4) as u32;
-                want.b = list.number(4) as u32;
-                if want.refusal == 0 {
-                    want.numbers = NUMBERS.iter().map(|(_, w)| list.number(*w) as i64).collect();
-                    list.patch(&mut probs);
-                    want.probs = probs.clone();
-                }
-                list.patch(&mut kept);
-                want.kept = kept.clone();
-                let found = match guarded(|| access::call(&mut parser, frame)) {
-                    None => Some("a panic".into()),
-                    Some(got) => difference(&want, &got),
-                };
-                if let Some(what) = found {
-                    let name = if case == 0 { String::new() } else { format!(" (case {case})") };
-                    return (frames, Some(format!("sequence {sequences} frame {within}{name}: {what}")));
+                let before = kept.clone();
+                let want = stored(&mut list, &mut probs, &mut kept);
+                // Each call starts from the record that is stored, so that a difference of one mode is none of the other's.
+                if found.first.is_none() {
+                    let what = match guarded(|| reader(&before, frame)) {
+                        None => Some("a panic".into()),
+                        Some(got) => difference(&want, &got),
+                    };
+                    found.first = what.map(|w| format!("sequence {sequences} frame {within}{}: {w}", named(case)));
                 }
             }
             0 => {
+                let frames = found.iter().map(|f| f.count).sum();
                 if (list.number(4), list.number(4)) != (sequences, frames) || !list.0.is_empty() {
-                    eprintln!("a list with a wrong end");
-                    std::process::exit(2);
+                    stop("a list with a wrong end");
                 }
-                return (frames, None);
+                return found;
             }
-            kind => {
-                eprintln!("a list with a record of kind {kind}");
-                std::process::exit(2);
-            }
+            kind => stop(&format!("a list with a record of kind {kind}")),
         }
     }
 }
 
-/// The number of scripts and the first difference.
-fn scripts(bytes: &[u8]) -> (usize, Option<String>) {
+/// A worked case by its number.
+fn named(case: usize) -> String {
+    if case == 0 { String::new() } else { format!(" (case {case})") }
+}
+
+fn scripts(bytes: &[u8]) -> Found {
     let mut list = Bytes(bytes);
     magic(&mut list, b"SBBOOLS1");
-    let mut scripts = 0;
+    let mut found = Found::default();
     while list.number(1) == 2 {
-        scripts += 1;
+        found.count += 1;
         let case = list.number(1);
         let length = list.number(4);
         let area = list.take(length);
@@ -142,21 +164,19 @@ fn scripts(bytes: &[u8]) -> (usize, Option<String>) {
         let reads: Vec<_> = list.take(2 * count).chunks(2).map(|r| (r[0], r[1])).collect();
         let length = list.number(2);
         let want = list.take(length);
-        let found = match guarded(|| crate::bare::line(area, &reads)) {
+        let what = match guarded(|| crate::bare::line(area, &reads)) {
             None => Some("a panic".to_string()),
             Some(got) if got.as_bytes() != want => Some(parted(&got, &String::from_utf8_lossy(want))),
             Some(_) => None,
         };
-        if let Some(what) = found {
-            let name = if case == 0 { String::new() } else { format!(" (case {case})") };
-            return (scripts, Some(format!("script {scripts}{name}: {what}")));
+        if found.first.is_none() {
+            found.first = what.map(|w| format!("script {}{}: {w}", found.count, named(case)));
         }
     }
-    if list.number(4) != scripts || !list.0.is_empty() {
-        eprintln!("a list with a wrong end");
-        std::process::exit(2);
+    if list.number(4) != found.count || !list.0.is_empty() {
+        stop("a list with a wrong end");
     }
-    (scripts, None)
+    found
 }
 
 /// The first word at which two answer lines part.
@@ -168,22 +188,25 @@ fn parted(got: &str, want: &str) -> String {
     }
 }
 
-/// Arguments: the paths of the list of frames and of the list of scripts. 0 where nothing differs, 1 where something does.
-pub fn main(arguments: &[String]) -> i32 {
+/// Arguments: the paths of the list of frames and of the list of scripts; and the modes whose reader was altered. 0 where nothing
+/// differs, 1 where frames of each of those modes do, or scripts, whose decoder both modes share; 3 where only other frames do.
+pub fn main(arguments: &[String], altered: &[Mode]) -> i32 {
     std::panic::set_hook(Box::new(|_| {}));
     let read = |i: usize| {
         let path = arguments.get(i).map_or("", |p| p);
-        std::fs::read(path).unwrap_or_else(|why| {
-            eprintln!("cannot read {path:?}: {why}");
-            std::process::exit(2)
-        })
+        std::fs::read(path).unwrap_or_else(|why| stop(&format!("cannot read {path:?}: {why}")))
     };
-    let (frames, scripts) = (frames(&read(0)), scripts(&read(1)));
-    for (what, (count, found)) in [("frames", &frames), ("scripts", &scripts)] {
-        match found {
-            None => println!("{what}: {count}, 0 differences"),
+    let [rust, standard] = frames(&read(0));
+    let all = [("frames in the Rust's mode", rust), ("frames in the standard's mode", standard), ("scripts", scripts(&read(1)))];
+    for (what, found) in &all {
+        match &found.first {
+            None => println!("{what}: {}, 0 differences", found.count),
             Some(where_) => println!("{what}: differs at {where_}"),
         }
     }
-    (frames.1.is_some() || scripts.1.is_some()) as i32
+    let same = |at: usize| all[at].1.first.is_none();
+    if (0..3).all(same) {
+        return 0;
+    }
+    if same(2) && altered.iter().any(|mode| same(*mode as usize)) { 3 } else { 1 }
 }

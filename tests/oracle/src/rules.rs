@@ -1,6 +1,6 @@
 //! The rules of docs/RULES.md written out a second time, from their words, to be held against the Rust.
 
-use crate::answer::{blocks, Answer, Look, COEFFS, KEPT, MOTION, NUMBERS, PROBS, SEEN};
+use crate::answer::{blocks, Answer, Look, Mode, COEFFS, KEPT, MOTION, NUMBERS, PROBS, SEEN};
 use crate::bare::Read;
 use crate::codec::vp8::probs;
 
@@ -141,13 +141,13 @@ impl Rules {
         Rules { kept }
     }
 
-    pub fn call(&mut self, f: &[u8]) -> Answer {
-        let mut out = self.read(f);
+    pub fn call(&mut self, mode: Mode, f: &[u8]) -> Answer {
+        let mut out = self.read(mode, f);
         out.kept = self.kept.clone();
         out
     }
 
-    fn read(&mut self, f: &[u8]) -> Answer {
+    fn read(&mut self, mode: Mode, f: &[u8]) -> Answer {
         let refused = |refusal, a, b| Answer { refusal, a, b, ..Answer::default() };
         let seen = match look(f) {
             Ok(seen) => seen,
@@ -163,7 +163,9 @@ impl Rules {
             return refused(3, (chunk + first) as u32, f.len() as u32);
         }
         let area = &f[chunk..];
-        if area.is_empty() {
+        let standard = mode == Mode::Standard;
+        let read = if standard { &area[..first] } else { area };
+        if read.is_empty() {
             self.kept[1] = 0;
             self.kept[2] = 0;
             return refused(4, 0, 0);
@@ -171,7 +173,7 @@ impl Rules {
 
         let mut named: Vec<(&str, i64)> = SEEN.into_iter().zip(seen).collect();
         named.extend([("chunk", chunk as i64), ("cols", blocks(seen[4])), ("rows", blocks(seen[5]))]);
-        let mut d = Dec::new(area);
+        let mut d = Dec::new(read);
         let k = &mut self.kept;
         if key {
             named.extend([("cs", d.flag() as i64), ("ct", d.flag() as i64)]);
@@ -187,10 +189,10 @@ impl Rules {
                 for i in 4..12 {
                     k[i] = if d.flag() == 1 { d.signed(if i < 8 { 7 } else { 6 }) as u8 } else { 0 };
                 }
+            }
+            if k[1] == 1 && (standard || k[2] == 1) {
                 for i in 12..15 {
-                    if k[1] == 1 {
-                        k[i] = if d.flag() == 1 { d.literal(8) as u8 } else { 255 };
-                    }
+                    k[i] = if d.flag() == 1 { d.literal(8) as u8 } else { 255 };
                 }
             }
         }

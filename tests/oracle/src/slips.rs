@@ -1,29 +1,13 @@
-//! Variants of the Rust with one slip each: the stored lists must tell every one of them from the Rust. A slip names its places in the
-//! Rust by line and column, so that no text of the Rust stands here; assemble.rs knows the texts by their digests, so that a place stays
-//! where it is. Beside each variant's program `write` leaves what was changed, for whoever has the Rust.
+//! Variants with one slip each, of the Rust and of the standard's reader: the stored lists must tell every one of them, by the frames of
+//! each mode whose reader the slip alters. A slip names its places in the Rust by line and column, so that no text of the Rust stands
+//! here; assemble.rs knows the texts by their digests, so that a place stays where it is. Beside each variant's program `write` leaves
+//! what was changed, for whoever has the Rust.
 
-use crate::assemble::Given;
+use crate::answer::Mode;
+use crate::assemble::Edit::{Put, Swap};
+use crate::assemble::In::{Decoder, Parser};
+use crate::assemble::{line, start, Change, Given, STANDARD};
 use std::path::Path;
-
-/// Which text a slip alters.
-#[derive(Clone, Copy)]
-enum In {
-    Parser,
-    Decoder,
-}
-
-enum Edit {
-    /// At this line and column, both counted from 1, so many characters are cut and these are put.
-    Put(In, usize, usize, usize, &'static str),
-    /// This line and the next change places.
-    Swap(In, usize),
-}
-
-use Edit::{Put, Swap};
-use In::{Decoder, Parser};
-
-/// A name and the edits that make it, in the order of their places.
-type Slip = (&'static str, &'static [Edit]);
 
 /// The line that is the head of the call, which some slips wrap.
 const CALL: usize = 704;
@@ -50,7 +34,8 @@ const AFTER: [(&str, &str, &str); 6] = [
     ),
 ];
 
-const SLIPS: &[Slip] = &[
+/// Slips of both readers; the standard's own changes are slips of the Rust alone.
+const SLIPS: &[Change] = &[
     // The boolean decoder.
     ("sign before magnitude", &[Swap(Decoder, 188)]),
     ("sign the other way", &[Put(Decoder, 191, 12, 0, "!")]),
@@ -112,7 +97,7 @@ const SLIPS: &[Slip] = &[
     // Segmentation and the filter.
     ("map flag not cleared", &[Put(Parser, 430, 9, 39, "")]),
     ("feature data flag not cleared", &[Put(Parser, 431, 9, 40, "")]),
-    ("segment probabilities with the map flag alone", &[Put(Parser, 466, 1, 0, "        }\n        {\n")]),
+    STANDARD[0],
     ("segment probabilities with the data flag alone", &[Put(Parser, 466, 16, 30, "true")]),
     ("segment probability without flag 0", &[Put(Parser, 474, 34, 3, "0")]),
     ("segment quantizer without flag kept", &[Put(Parser, 448, 24, 0, "if false ")]),
@@ -126,7 +111,7 @@ const SLIPS: &[Slip] = &[
     ("sharpness before level", &[Swap(Parser, 612)]),
 
     // The rest of the header.
-    ("decoder held to the first partition", &[Put(Parser, 602, 39, 0, "&"), Put(Parser, 602, 43, 0, "[..frame.first_part_size as usize]")]),
+    STANDARD[1],
     ("quantizer deltas in another order", &[
         Put(Parser, 529, 15, 11, "y2_ac_delta"),
         Put(Parser, 536, 15, 11, "y2_dc_delta"),
@@ -187,85 +172,130 @@ const SLIPS: &[Slip] = &[
     ]),
 ];
 
-/// The text of a slip's program: the altered Rust with the replay of the lists around it.
-fn program(given: &Given) -> String {
+/// Slips of the standard's reader alone, whose own edits they alter or stand beside.
+const ALONE: &[Change] = &[
+    ("probabilities only with feature data", &[Put(Parser, 466, 1, 0, "")]),
+    ("probabilities before the feature data", &[
+        Put(
+            Parser,
+            441,
+            9,
+            0,
+            "if seg.update_mb_segmentation_map {\n            for value in seg.segment_prob.iter_mut() {\n                \
+             *value = if bd.read_bool()? { bd.read_uint(8)? } else { 255 };\n            }\n        }\n        ",
+        ),
+        Put(Parser, 466, 16, 30, "false"),
+    ]),
+    ("probability without flag 0 where there are no data", &[Put(Parser, 474, 34, 3, "if seg.update_segment_feature_data { 255 } else { 0 }")]),
+    ("probability without flag kept where there are no data", &[Put(Parser, 471, 28, 0, "if seg.update_segment_feature_data ")]),
+    ("decoder not held", &[Put(Parser, 602, 39, 0, ""), Put(Parser, 602, 43, 0, "")]),
+    ("decoder held one byte short", &[Put(Parser, 602, 43, 0, "[..frame.first_part_size as usize - (frame.first_part_size > 1) as usize]")]),
+    ("decoder held one byte long", &[
+        Put(Parser, 602, 43, 0, "[..data.len().min(frame.first_part_size as usize + (frame.first_part_size > 0) as usize)]"),
+    ]),
+    ("refusal 4 by the whole area", &[
+        Put(Parser, 602, 39, 0, "if frame.first_part_size == 0 && !data.is_empty() { &[0] } else { &"),
+        Put(Parser, 602, 43, 0, "[..frame.first_part_size as usize] }"),
+    ]),
+    ("refusal 4 before a key frame's reset", &[
+        Put(
+            Parser,
+            706,
+            9,
+            0,
+            "if header.first_part_size == 0 && header.key_frame {\n            \
+             return Err(BoolDecoderError::EndOfInput.into());\n        }\n        ",
+        ),
+    ]),
+    ("refusal 4 of a header that reaches the first partition's end", &[
+        Put(
+            Parser,
+            693,
+            9,
+            0,
+            "if bd.pos() == 8 * frame.first_part_size as usize {\n            \
+             return Err(BoolDecoderError::EndOfInput);\n        }\n        ",
+        ),
+    ]),
+    ("sizes measured against the first partition", &[Put(Parser, 720, 40, 0, "&"), Put(Parser, 720, 55, 0, "[..header.first_part_size as usize]")]),
+];
+
+/// What is done around the call where the standard's reader keeps a record of its own; a fresh parser is a fresh one for it too.
+const OWN: (&str, &str, &str) = (
+    "the standard's reader has a record of its own",
+    "thread_local!(static OWN: std::cell::RefCell<Parser> = Default::default());\n \
+     if *self != Parser::default() { *self = OWN.with_borrow(Parser::clone); }",
+    "OWN.set(self.clone());",
+);
+
+/// A variant: its name and both readers.
+struct Variant {
+    name: &'static str,
+    rust: Given,
+    standard: Given,
+}
+
+/// The text of a slip's program: both readers with the replay of the lists around them.
+fn program(variant: &Variant, altered: &[Mode]) -> String {
     let here = Path::new(env!("CARGO_MANIFEST_DIR")).join("src");
+    let access = here.join("access.rs");
     let mut out = "extern crate self as log;\n#[macro_export]\nmacro_rules! debug { ($($any:tt)*) => {}; }\n".to_string();
-    out += &given.modules("crate::", &here.join("access.rs"));
+    out += &variant.rust.modules("crate::", &access);
+    out += &format!("pub mod standard {{\n{}}}\n", variant.standard.modules("crate::standard::", &access));
     for name in ["answer", "bare", "replay"] {
         out += &format!("#[path = {:?}]\n#[allow(dead_code)]\nmod {name};\n", here.join(name).with_extension("rs"));
     }
-    out + "fn main() { let a: Vec<String> = std::env::args().skip(1).collect(); std::process::exit(replay::main(&a)) }\n"
+    let modes: String = altered.iter().map(|mode| format!("answer::Mode::{mode:?}, ")).collect();
+    out + &format!("fn main() {{ let a: Vec<String> = std::env::args().skip(1).collect(); std::process::exit(replay::main(&a, &[{modes}])) }}\n")
 }
 
-/// Where a line, counted from 1, begins.
-fn start(text: &str, line: usize) -> usize {
-    text.split_inclusive('\n').take(line - 1).map(str::len).sum()
+/// The call with something done before it and after.
+fn wrapped(given: &Given, before: &str, after: &str) -> Given {
+    let call = line(&given.parser, CALL);
+    let head = call.replace("parse_frame", "inner").replace("pub fn", "fn");
+    let wrap = format!("{call}\n {before}\n let r = self.inner(bitstream);\n {after}\n r\n }}\n{head}");
+    let mut parser = given.parser.clone();
+    let at = start(&parser, CALL);
+    parser.replace_range(at..at + call.len(), &wrap);
+    Given { parser, ..given.clone() }
 }
 
-/// The text of a line without its end.
-fn line(text: &str, number: usize) -> &str {
-    text.lines().nth(number - 1).expect("a line of the text that its digest names")
-}
-
-fn edited(given: &Given, edits: &[Edit]) -> Given {
-    let mut out = given.clone();
-    // From the last place to the first, so that each still stands where it is told.
-    for edit in edits.iter().rev() {
-        let (Put(which, ..) | Swap(which, ..)) = edit;
-        let text = match which {
-            Parser => &mut out.parser,
-            Decoder => &mut out.decoder,
-        };
-        match edit {
-            Put(_, line, column, cut, put) => {
-                let at = start(text, *line) + column - 1;
-                text.replace_range(at..at + cut, put);
-            }
-            Swap(_, number) => {
-                let (at, end) = (start(text, *number), start(text, number + 2));
-                let both = format!("{}\n{}\n", line(text, number + 1), line(text, *number));
-                text.replace_range(at..end, &both);
-            }
-        }
-    }
-    out
-}
-
-/// The lines in which two texts differ, the old ones and the new ones.
-fn changed(old: &str, new: &str) -> String {
-    let (a, b): (Vec<&str>, Vec<&str>) = (old.lines().collect(), new.lines().collect());
-    let head = a.iter().zip(&b).take_while(|(x, y)| x == y).count();
-    let tail = a[head..].iter().rev().zip(b[head..].iter().rev()).take_while(|(x, y)| x == y).count();
-    let told = |sign: char, lines: &[&str]| lines[head..lines.len() - tail].iter().map(|l| format!("{sign} {l}\n")).collect::<String>();
-    told('-', &a) + &told('+', &b)
+/// All variants; the first is the Rust unchanged.
+fn variants(given: &Given) -> Vec<Variant> {
+    // The wrapped call stands after the places of the standard's edits, which so stay where they are told.
+    let both = |name, rust: Given| Variant { name, standard: rust.standard(&[]), rust };
+    let alone = |name, standard| Variant { name, standard, rust: given.clone() };
+    let after = |outcome: &str, then: &str| {
+        wrapped(given, "let old = self.clone();", &format!("if matches!(r, {outcome}) {{ {then} }}\n let _ = old;"))
+    };
+    let mut all = vec![both("the Rust unchanged", given.clone())];
+    all.extend(SLIPS.iter().map(|(name, edits)| Variant { name, rust: given.edited(edits), standard: given.standard(edits) }));
+    all.extend(AFTER.iter().map(|(name, outcome, then)| both(name, after(outcome, then))));
+    all.extend(ALONE.iter().map(|(name, edits)| alone(name, given.standard(edits))));
+    let (name, outcome, then) = AFTER[1];
+    all.push(alone(name, after(outcome, then).standard(&[])));
+    let (name, before, then) = OWN;
+    all.push(alone(name, wrapped(given, before, then).standard(&[])));
+    all
 }
 
 /// Writes one program a slip into the folder, numbered, with its name and what was changed beside it; 00 is the Rust unchanged.
 pub fn write(folder: &Path) {
-    let from = std::env::var("SILLBROOK_RUST_SRC").unwrap_or_default();
-    let given = Given::read(Path::new(&from)).unwrap_or_else(|why| crate::stop(2, &why));
-    let mut all = vec![("the Rust unchanged".to_string(), given.clone())];
-    for (name, edits) in SLIPS {
-        all.push((name.to_string(), edited(&given, edits)));
-    }
-    let call = line(&given.parser, CALL);
-    for (name, outcome, then) in AFTER {
-        let head = call.replace("parse_frame", "inner").replace("pub fn", "fn");
-        let body = format!("let old = self.clone();\n let r = self.inner(bitstream);\n if matches!(r, {outcome}) {{ {then} }}");
-        let wrap = format!("{call}\n {body}\n let _ = old;\n r\n }}\n{head}");
-        let mut parser = given.parser.clone();
-        let at = start(&parser, CALL);
-        parser.replace_range(at..at + call.len(), &wrap);
-        all.push((name.to_string(), Given { parser, ..given.clone() }));
-    }
-    for (i, (name, altered)) in all.iter().enumerate() {
+    let given = Given::found().unwrap_or_else(|why| crate::stop(2, &why));
+    let standard = given.standard(&[]);
+    for (i, variant) in variants(&given).iter().enumerate() {
         let put = |end: &str, text: &str| {
             let path = folder.join(format!("{i:02}.{end}"));
             std::fs::write(&path, text).unwrap_or_else(|why| crate::stop(1, &format!("{}: {why}", path.display())));
         };
-        put("rs", &program(altered));
-        put("name", name);
-        put("change", &(changed(&given.decoder, &altered.decoder) + &changed(&given.parser, &altered.parser)));
+        let changes = [(Mode::Rust, given.changes(&variant.rust)), (Mode::Standard, standard.changes(&variant.standard))];
+        let altered: Vec<_> = changes.iter().filter(|(_, change)| !change.is_empty()).collect();
+        put("rs", &program(variant, &altered.iter().map(|(mode, _)| *mode).collect::<Vec<_>>()));
+        let whose = match altered[..] {
+            [(mode, _)] => format!(" ({mode} alone)"),
+            _ => String::new(),
+        };
+        put("name", &format!("{}{whose}", variant.name));
+        put("change", altered.first().map_or("", |(_, change)| change));
     }
 }

@@ -26,6 +26,8 @@ pub struct Spec {
     pub seg_q: [Option<Signed>; 4],
     pub seg_l: [Option<Signed>; 4],
     pub seg_p: [Option<u8>; 3],
+    /// Whether the segment probabilities are coded by the map flag alone, as the standard has it.
+    pub by_map: bool,
     pub simple: bool,
     pub level: u8,
     pub sharp: u8,
@@ -85,12 +87,12 @@ impl Spec {
                 w.flag(self.seg_mode);
                 self.seg_q.iter().for_each(|v| optional(&mut w, 7, *v));
                 self.seg_l.iter().for_each(|v| optional(&mut w, 6, *v));
-                if self.seg_map {
-                    for p in self.seg_p {
-                        w.flag(p.is_some());
-                        if let Some(p) = p {
-                            w.literal(8, p as u32);
-                        }
+            }
+            if self.seg_map && (self.seg_data || self.by_map) {
+                for p in self.seg_p {
+                    w.flag(p.is_some());
+                    if let Some(p) = p {
+                        w.literal(8, p as u32);
                     }
                 }
             }

@@ -1,14 +1,71 @@
 //! What a list reaches, and what it would have to reach and does not.
 
-use crate::answer::{Answer, COEFFS, KEPT, MOTION, NUMBERS, PROBS};
+use crate::answer::{Answer, Mode, COEFFS, KEPT, MODES, MOTION, NUMBERS, PROBS};
 use crate::bare::Read;
+use crate::list::Item;
 use crate::rules::Dec;
 use std::collections::{BTreeMap, BTreeSet};
 
+/// A list of frames: its sequences, and what the frames of each mode reach.
 #[derive(Default)]
 pub struct Stats {
     sequences: usize,
     lengths: BTreeSet<usize>,
+    /// Changes of mode from one frame of a sequence to the next.
+    changes: usize,
+    /// The mode of the frame before, in the same sequence.
+    last: Option<Mode>,
+    modes: [Reach; 2],
+}
+
+impl Stats {
+    pub fn sequence(&mut self, length: usize) {
+        self.sequences += 1;
+        self.lengths.insert(length);
+        self.last = None;
+    }
+
+    /// `other` is the other mode's answer over the same record.
+    pub fn frame(&mut self, item: &Item, before: &[u8], fresh: &[u8], answer: &Answer, other: &Answer) {
+        let reach = &mut self.modes[item.1 as usize];
+        reach.frame(item, before, fresh, answer, other);
+        if self.last.replace(item.1).is_some_and(|mode| mode != item.1) {
+            self.changes += 1;
+            reach.turned.insert((answer.refusal, key(&item.2)));
+        }
+    }
+
+    pub fn print(&self) {
+        println!("sequences {}, changes of mode within them {}", self.sequences, self.changes);
+        println!("sequence lengths {:?}", self.lengths);
+        for mode in MODES {
+            println!("in {mode}:");
+            self.modes[mode as usize].print();
+        }
+    }
+
+    /// What the fixed list must reach and this one does not.
+    pub fn missing(&self) -> Vec<String> {
+        let mut out = Vec::new();
+        let mut need = |ok: bool, what: &str| {
+            if !ok {
+                out.push(what.to_string());
+            }
+        };
+        need(self.sequences >= 300, "300 sequences");
+        need((1..=8).all(|n| self.lengths.contains(&n)), "sequences of 1 to 8 frames");
+        need(self.changes >= 50, "50 changes of mode within sequences");
+        for mode in MODES {
+            let lacking = self.modes[mode as usize].missing(mode);
+            out.extend(lacking.iter().map(|what| format!("in {mode}: {what}")));
+        }
+        out
+    }
+}
+
+/// What the frames of one mode reach.
+#[derive(Default)]
+struct Reach {
     frames: usize,
     bytes: usize,
     longest: usize,
@@ -29,8 +86,16 @@ pub struct Stats {
     areas: BTreeSet<usize>,
     led: usize,
     stopped: usize,
+    /// Headers that are read past the first partition by the Rust, and so told otherwise by the standard.
     beyond: usize,
-    mapped: usize,
+    /// Accepted frames with the map flag and no feature data, by whether all segment probabilities are then 255.
+    mapped: BTreeMap<bool, usize>,
+    /// Outcomes, by refusal and key, of frames after one in the other mode.
+    turned: BTreeSet<(u8, bool)>,
+    /// Frames that the other mode answers otherwise.
+    parted: usize,
+    /// Refusals 4 of frames with an area that is not empty.
+    emptied: BTreeMap<bool, usize>,
 }
 
 /// Whether the frame's tag says key; too short a frame is counted as none.
@@ -38,17 +103,12 @@ fn key(frame: &[u8]) -> bool {
     frame.len() >= 3 && frame[0] & 1 == 0
 }
 
-impl Stats {
-    pub fn sequence(&mut self, length: usize) {
-        self.sequences += 1;
-        self.lengths.insert(length);
-    }
-
-    pub fn frame(&mut self, case: u8, frame: &[u8], before: &[u8], fresh: &[u8], a: &Answer) {
+impl Reach {
+    fn frame(&mut self, (case, mode, frame): &Item, before: &[u8], fresh: &[u8], a: &Answer, other: &Answer) {
         self.frames += 1;
         self.bytes += frame.len();
         self.longest = self.longest.max(frame.len());
-        self.cases.insert(case);
+        self.cases.insert(*case);
         let key = key(frame);
         let which = (a.refusal, key);
         *self.outcomes.entry(which).or_default() += 1;
@@ -57,6 +117,10 @@ impl Stats {
         self.altered.entry(which).or_default().extend(unlike(before, &a.kept));
         for i in 0..25 {
             self.kept.entry(i).or_default().insert(a.kept[i]);
+        }
+        self.parted += (a != other) as usize;
+        if a.refusal == 4 && frame.len() > if key { 10 } else { 3 } {
+            *self.emptied.entry(key).or_default() += 1;
         }
         if a.refusal != 0 {
             return;
@@ -67,21 +131,31 @@ impl Stats {
         let base = if key { &fresh[25..] } else { &before[25..] };
         self.coded.entry(a.get("rep") == 1).or_default().extend(unlike(base, &a.probs));
         self.motion.extend(&a.probs[COEFFS..COEFFS + MOTION]);
-        let area = frame.len() - a.get("chunk") as usize;
+        let chunk = a.get("chunk") as usize;
+        let area = match mode {
+            Mode::Rust => frame.len() - chunk,
+            Mode::Standard => a.get("first") as usize,
+        };
         self.areas.insert(area);
-        self.led += (frame[a.get("chunk") as usize] == 0xff) as usize;
+        self.led += (frame[chunk] == 0xff) as usize;
         self.stopped += (a.get("hsize") as usize == 8 * area) as usize;
-        self.beyond += (a.get("hsize") > 8 * a.get("first")) as usize;
-        self.mapped += (a.kept[1] == 1 && a.kept[2] == 0) as usize;
+        let mapped = a.kept[1] == 1 && a.kept[2] == 0;
+        if mapped {
+            *self.mapped.entry(a.kept[12..15] == [255; 3]).or_default() += 1;
+        }
+        self.beyond += match mode {
+            Mode::Rust => a.get("hsize") > 8 * a.get("first"),
+            // Nothing but the bytes after the first partition can tell the modes apart then.
+            Mode::Standard => !mapped && a != other,
+        } as usize;
     }
 
     fn seen(&self, name: &str, key: bool) -> BTreeSet<i64> {
         self.values.get(&(crate::answer::at(name), key)).cloned().unwrap_or_default()
     }
 
-    pub fn print(&self) {
-        println!("sequences {}, frames {}, frame bytes {}, longest {}", self.sequences, self.frames, self.bytes, self.longest);
-        println!("sequence lengths {:?}", self.lengths);
+    fn print(&self) {
+        println!("frames {}, frame bytes {}, longest {}", self.frames, self.bytes, self.longest);
         println!("cases {:?}", self.cases);
         for ((refusal, key), count) in &self.outcomes {
             let stood = self.stood[&(*refusal, *key)].len();
@@ -105,24 +179,24 @@ impl Stats {
             println!("header probabilities coded anew, refresh_entropy_probs {}: {} of {PROBS}", *keep as u8, set.len());
         }
         println!("motion probabilities: {} values", self.motion.len());
-        println!("areas led by FF {}, headers read past the end {}, past the first partition {}, map flag without data {}", self.led, self.stopped, self.beyond, self.mapped);
+        println!("areas led by FF {}, headers read past the end {}, past the first partition {}", self.led, self.stopped, self.beyond);
+        println!("map flag without data, by whether the probabilities are 255 {:?}", self.mapped);
+        println!("answered otherwise by the other mode {}, refusal 4 before other bytes, by key {:?}", self.parted, self.emptied);
     }
 
-    /// What the fixed list must reach and this one does not.
-    pub fn missing(&self) -> Vec<String> {
+    fn missing(&self, mode: Mode) -> Vec<String> {
         let mut out = Vec::new();
         let mut need = |ok: bool, what: String| {
             if !ok {
                 out.push(what);
             }
         };
-        need(self.sequences >= 300, "300 sequences".into());
         need(self.frames >= 800, "800 frames".into());
-        need((1..=8).all(|n| self.lengths.contains(&n)), "sequences of 1 to 8 frames".into());
         need((1..=12).all(|c| self.cases.contains(&c)), "cases 1 to 12".into());
         for which in [(1, true), (1, false), (2, true), (3, true), (3, false), (4, true), (4, false), (5, true), (5, false)] {
             // A frame under 3 bytes counts as no key frame.
             need(self.outcomes.get(&which).is_some_and(|n| *n >= 4), format!("refusal {which:?}"));
+            need(self.turned.contains(&which), format!("refusal {which:?} after a frame in the other mode"));
             let stood = self.stood.get(&which).map_or(0, |s| s.len());
             need(stood == KEPT, format!("all kept numbers changed before refusal {which:?}: {stood}"));
         }
@@ -194,7 +268,14 @@ impl Stats {
         need(self.led >= 30, "areas led by FF".into());
         need(self.stopped >= 50, "headers read past the end".into());
         need(self.beyond >= 50, "headers read past the first partition".into());
-        need(self.mapped >= 10, "the map flag without feature data".into());
+        let mapped = |whole: bool| self.mapped.get(&whole).copied().unwrap_or(0);
+        need(mapped(true) + mapped(false) >= 10, "the map flag without feature data".into());
+        need(self.parted >= 100, "frames that the modes answer otherwise".into());
+        if mode == Mode::Standard {
+            need(mapped(true) >= 10 && mapped(false) >= 10, "the map flag without feature data, with probabilities 255 and with others".into());
+            let emptied = |key: bool| self.emptied.get(&key).is_some_and(|n| *n >= 10);
+            need(emptied(true) && emptied(false), "refusal 4 of key frames and others whose area is not empty".into());
+        }
         out
     }
 }
