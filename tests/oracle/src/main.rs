@@ -57,7 +57,7 @@ const USAGE: &str = "usage: tests/oracle/run COMMAND
   bools                      answers to scripts on standard input, one line a script
   check                      holds the Rust and the standard's reader against the rules on frame records on standard input
   standard                   what the standard's reader has otherwise than the Rust
-  gen frames --seed S --count N [--streams DIR] [--parting]   writes frame records; with half of them at which the modes part
+  gen frames --seed S --count N [--streams DIR] [--parting]   writes frame records; half at which the modes part
   gen bools --seed S --count N                                writes scripts
   modes standard             frame records again, all in the standard's mode
   modes mixed SEED           frame records again, with the mode drawn from frame to frame
