@@ -137,7 +137,7 @@ class Rfc:
         want["st"] = self.kept(case, told, c.key)
         if reopened:
             want |= self.by_the_chunk(c, sizes)
-        self.expect(case, told)
+        self.expect(case, told, sizes is not None)
         self.compare(case, "err 5" if sizes is None else "ok", {"st": want["st"]} if sizes is None else want)
 
     def own_sizes(self, case, line, sizes):
@@ -167,17 +167,16 @@ class Rfc:
         return {"first": str(c.first), "w": str(c.width), "h": str(c.height), "cols": str((c.width + 15) // 16),
                 "rows": str((c.height + 15) // 16), "parts": listed(sizes or [])}
 
-    def expect(self, case, told):
-        """Counts what the program reads otherwise, or would have refused."""
-        stop, first = self.stop(case.frame), frames.first_partition(case.frame)
-        if stop:
-            self.tally.expect(case, stop[1])
+    def expect(self, case, told, accepted):
+        """Counts what the program reads otherwise, and what it would have refused where the port accepts."""
+        first = frames.first_partition(case.frame)
         if len(first) == 1 and first != b"\0":
             self.tally.expect(case, self.ONE_BYTE)
-        if "e" in told["noted"]:
-            self.tally.expect(case, self.VERSION)
-        if "r" in told["noted"]:
-            self.tally.expect(case, self.RESERVED)
+        stop = self.stop(case.frame)
+        refuses = ((stop and stop[1], stop), (self.VERSION, "e" in told["noted"]), (self.RESERVED, "r" in told["noted"]))
+        for kind, holds in refuses:
+            if accepted and holds:
+                self.tally.expect(case, kind)
 
     def compare(self, case, want_outcome, want):
         """Holds the port's line against what it has to be."""
