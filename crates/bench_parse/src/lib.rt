@@ -1,4 +1,4 @@
-// What bench/parse measures: a frame parsed by a fresh parser. It is exported for a host program.
+// What bench/parse measures: a frame parsed by a fresh parser, in a mode by its number. It is exported for a host program.
 use bench_sum::bytes;
 use bench_sum::fold;
 use bench_sum::words;
@@ -7,6 +7,7 @@ use vp8_flat::byte_of;
 use vp8_records::CoeffProbs;
 use vp8_records::Header;
 use vp8_records::MbLfAdjustments;
+use vp8_records::Mode;
 use vp8_records::ModeProbs;
 use vp8_records::MvProbs;
 use vp8_records::Parsed;
@@ -19,6 +20,7 @@ ghost use mir.Val.{ofZ};
 ghost use mir.Syntax.{w8};
 ghost use Rattle.bench_sum.specs.Sum.{folded, folds};
 ghost use Rattle.vp8_flat.specs.Bytes.{segmentationBytes, adjustmentBytes};
+ghost use Rattle.vp8_records.specs.Mode.{modeOf};
 ghost use Rattle.vp8_records.specs.Start.{fresh};
 ghost use Rattle.rfc6386.specs.Call.{call};
 ghost use Rattle.vp8_flat.specs.Numbers.{frontNumbers};
@@ -162,8 +164,10 @@ fn number(answer: Parsed) -> u64
 
 // The sum over a fresh parser's answer to the frame.
 #[no_mangle]
-pub extern "C" fn bench_parse_frame(bytes: &[u8]) -> u64
-    ensures { λ r. ⌜ r ≡ sumOf (call fresh (now (bytes .entry))) ⌝ }
+pub extern "C" fn bench_parse_frame(bytes: &[u8], mode: u32) -> u64
+    ensures { λ r. ⌜ r ≡ sumOf (call (modeOf mode) fresh (now (bytes .entry))) ⌝ }
 {
-    number(vp8_parser::parse(Parser::new(), bytes))
+    let fresh = Parser::new();
+    let whose = Mode::of(mode);
+    number(vp8_parser::parse_in(fresh, bytes, whose))
 }

@@ -12,23 +12,10 @@ use Rattle.rfc6386.specs.Frame.{keyChunk, chunk, snapshot, codedSizes, sum, siz
 use Rattle.rfc6386.specs.Call.{segmented, apply, cleared, headerOf, call, after}
 use Rattle.rfc6386_cases.specs.Modes.{Twice, shown, twice, Ends, ended, ends}
 
-pub rust-shows : map (shown Rust) twice ≡ map (λ (x : Twice). x .rust) twice
-unfolding twice fresh blank coeffUpdate mvUpdate over number start double normal chosen readBool whole countOf position
+pub modes-show : (map (shown Rust) twice ≡ map (λ (x : Twice). x .rust) twice)
+    × (map (shown Standard) twice ≡ map (λ (x : Twice). x .standard) twice) × (map ended ends ≡ map (λ (x : Ends). x .state) ends)
+unfolding twice ends fresh blank coeffUpdate mvUpdate over number start double normal chosen readBool whole countOf position
     _>>=_ run bool flag when litFrom lit sint make times each maybe orElse
     anew features segments deltas quant refresh coefficients motion modes inter header
     keyChunk chunk snapshot codedSizes sum sizes headed body decode segmented apply cleared headerOf call after
-rust-shows = refl
-
-pub standard-shows : map (shown Standard) twice ≡ map (λ (x : Twice). x .standard) twice
-unfolding twice fresh blank coeffUpdate mvUpdate over number start double normal chosen readBool whole countOf position
-    _>>=_ run bool flag when litFrom lit sint make times each maybe orElse
-    anew features segments deltas quant refresh coefficients motion modes inter header
-    keyChunk chunk snapshot codedSizes sum sizes headed body decode segmented apply cleared headerOf call after
-standard-shows = refl
-
-pub standard-ends : map ended ends ≡ map (λ (x : Ends). x .state) ends
-unfolding ends fresh coeffUpdate mvUpdate number start double normal chosen readBool whole countOf position
-    _>>=_ run bool flag when litFrom lit sint make times each maybe orElse
-    anew features segments deltas quant refresh coefficients motion modes inter header
-    keyChunk chunk snapshot codedSizes sum sizes headed body decode headerOf call
-standard-ends = refl
+modes-show = (refl, refl, refl)

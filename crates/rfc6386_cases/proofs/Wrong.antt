@@ -4,7 +4,8 @@ use native.Mathlib.Omega.{arith}
 use native.Mathlib.Decide.{ℕ-discrete}
 use mathlib.Core.Path.{_≡_, refl, sym, ap, _∙_}
 use mathlib.Core.Bool.{Bool, true, false}
-use mathlib.Core.List.{List, [], _∷_, _++_}
+use mathlib.Core.List.{List, [], _∷_, _++_, map}
+use lib.ListN.{getD, replicate}
 use Rattle.vp8_probs.specs.Tables.{coeffUpdate, mvUpdate}
 use Rattle.vp8_records.specs.declared.Header.{Header}
 use Rattle.vp8_records.specs.declared.Mode.{Mode}
@@ -31,43 +32,41 @@ seven = 0x31 ∷ 0x00 ∷ 0x00 ∷ 0x00 ∷ 0x00 ∷ []
 abbrev eleven : List ℕ
 eleven = key176x144 0x70 ++ (0x30 ∷ 0x80 ∷ 0x00 ∷ 0x00 ∷ [])
 
--- what tells them apart: accepted, the number of bools, a key frame, segmentation enabled after the call
-record Told : Type 0 where
+-- what tells them apart: accepted, the number of bools, a key frame
+record Seen : Type 0 where
   outcome : Outcome
   bools : ℕ
   key : Bool
-  enabled : Bool
 
-abbrev told : Parsed → Told
-told r = record {
-  outcome = r .outcome;
-  bools = r .header .bools;
-  key = r .header .«key_frame»;
-  enabled = r .parser .segmentation .«segmentation_enabled»;
-}
+abbrev seen : Parsed → Seen
+seen r = record { outcome = r .outcome; bools = r .header .bools; key = r .header .«key_frame» }
 
-six-is : (md : Mode) → told (call md fresh six) ≡ record { outcome = Accepted; bools = 1086; key = true; enabled = false }
-unfolding coeffUpdate number start double normal chosen readBool whole countOf position _>>=_ run bool flag when litFrom lit sint make
-    times each maybe orElse anew features segments deltas quant refresh coefficients inter header keyChunk chunk snapshot codedSizes sum
-    sizes headed body decode segmented apply headerOf call
-six-is Rust = refl
-six-is Standard = refl
+abbrev modesOf : List Mode
+modesOf = Rust ∷ Standard ∷ []
 
--- over any parser, whose state is not looked at
-seven-is : (md : Mode) (p : Parser)
-    → (call md p seven .outcome ≡ Accepted) × (call md p seven .header .bools ≡ 1157) × (call md p seven .header .«key_frame» ≡ false)
+-- each case in both modes at once, which takes less than one after the other; 7 over any parser, whose state is not looked at
+computed : (p : Parser)
+    → (map (λ md. seen (call md fresh six)) modesOf ≡ replicate 2 (record { outcome = Accepted; bools = 1086; key = true }))
+    × (map (λ md. seen (call md p seven)) modesOf ≡ replicate 2 (record { outcome = Accepted; bools = 1157; key = false }))
+    × (map (λ md. call md fresh eleven .parser .segmentation .«segmentation_enabled») modesOf ≡ replicate 2 true)
 unfolding coeffUpdate mvUpdate number start double normal chosen readBool whole countOf position _>>=_ run bool flag when litFrom lit
-    sint make times each maybe orElse anew features segments deltas quant refresh coefficients motion modes inter header chunk snapshot
-    codedSizes sum sizes headed body decode headerOf call
-seven-is Rust p = (refl, refl, refl)
-seven-is Standard p = (refl, refl, refl)
+    sint make times each maybe orElse anew features segments deltas quant refresh coefficients motion modes inter header keyChunk chunk
+    snapshot codedSizes sum sizes headed body decode segmented apply headerOf call
+computed p = (refl, refl, refl)
+
+-- what holds of both holds of each
+each-mode : {A : Type 0} (g : Mode → A) (x : A) → map g modesOf ≡ replicate 2 x → (md : Mode) → g md ≡ x
+each-mode g x e Rust = ap (λ (l : List _). getD l 0 x) e
+each-mode g x e Standard = ap (λ (l : List _). getD l 1 x) e
+
+six-is : (md : Mode) → seen (call md fresh six) ≡ record { outcome = Accepted; bools = 1086; key = true }
+six-is = each-mode (λ md. seen (call md fresh six)) _ (computed fresh .0)
+
+seven-is : (md : Mode) (p : Parser) → seen (call md p seven) ≡ record { outcome = Accepted; bools = 1157; key = false }
+seven-is md p = each-mode (λ m. seen (call m p seven)) _ (computed p .1) md
 
 eleven-is : (md : Mode) → call md fresh eleven .parser .segmentation .«segmentation_enabled» ≡ true
-unfolding coeffUpdate number start double normal chosen readBool whole countOf position _>>=_ run bool flag when litFrom lit sint make
-    times each maybe orElse anew features segments deltas quant refresh coefficients inter header keyChunk chunk snapshot codedSizes sum
-    sizes headed body decode segmented apply call
-eleven-is Rust = refl
-eleven-is Standard = refl
+eleven-is = each-mode (λ md. call md fresh eleven .parser .segmentation .«segmentation_enabled») true (computed fresh .2)
 
 fresh-is : fresh .segmentation .«segmentation_enabled» ≡ false
 unfolding fresh
@@ -78,16 +77,16 @@ apart b p q = let z : _≡_ {A = ℕ} 0 1 = cc in omega arith
 
 module _ (md : Mode) (g : Function) (meets : Meets md g) where
   six-outcome : g fresh six .outcome ≡ Accepted
-  six-outcome = ap (λ (r : Parsed). r .outcome) (meets fresh six) ∙ ap (λ (t : Told). t .outcome) (six-is md)
+  six-outcome = ap (λ (r : Parsed). r .outcome) (meets fresh six) ∙ ap (λ (t : Seen). t .outcome) (six-is md)
 
   seven-outcome : g fresh seven .outcome ≡ Accepted
-  seven-outcome = ap (λ (r : Parsed). r .outcome) (meets fresh seven) ∙ seven-is md fresh .0
+  seven-outcome = ap (λ (r : Parsed). r .outcome) (meets fresh seven) ∙ ap (λ (t : Seen). t .outcome) (seven-is md fresh)
 
   six-key : g fresh six .header .«key_frame» ≡ true
-  six-key = ap (λ (r : Parsed). r .header .«key_frame») (meets fresh six) ∙ ap (λ (t : Told). t .key) (six-is md)
+  six-key = ap (λ (r : Parsed). r .header .«key_frame») (meets fresh six) ∙ ap (λ (t : Seen). t .key) (six-is md)
 
   seven-key : (p : Parser) → g p seven .header .«key_frame» ≡ false
-  seven-key p = ap (λ (r : Parsed). r .header .«key_frame») (meets p seven) ∙ seven-is md p .2
+  seven-key p = ap (λ (r : Parsed). r .header .«key_frame») (meets p seven) ∙ ap (λ (t : Seen). t .key) (seven-is md p)
 
   pub not-refuses-all : RefusesAll g → ⊥
   not-refuses-all h = h fresh six six-outcome
@@ -119,12 +118,12 @@ constant-invents md g n h = go (ℕ-discrete n 1086)
     go (yes e) = record {
       parser = fresh;
       frame = seven;
-      accepted = seven-is md fresh .0;
-      other = λ x. omega (arith, h fresh seven, x, seven-is md fresh .1, e);
+      accepted = ap (λ (t : Seen). t .outcome) (seven-is md fresh);
+      other = λ x. omega (arith, h fresh seven, x, ap (λ (t : Seen). t .bools) (seven-is md fresh), e);
     }
     go (no e) = record {
       parser = fresh;
       frame = six;
-      accepted = ap (λ (t : Told). t .outcome) (six-is md);
-      other = λ x. e (sym (h fresh six) ∙ x ∙ ap (λ (t : Told). t .bools) (six-is md));
+      accepted = ap (λ (t : Seen). t .outcome) (six-is md);
+      other = λ x. e (sym (h fresh six) ∙ x ∙ ap (λ (t : Seen). t .bools) (six-is md));
     }

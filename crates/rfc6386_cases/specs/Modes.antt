@@ -1,5 +1,5 @@
--- The worked cases in both modes (docs/RULES.md numbers them): frames, all in one mode over a fresh parser, and what each mode shows of
--- the last; and where the decoder ends in the standard's mode.
+-- The worked cases that the two modes read apart (docs/RULES.md numbers them): frames, all in one mode over a fresh parser, and what each
+-- mode shows of the last; and where the decoder ends in the standard's mode.
 use Prim.Native.Nat.{ℕ, _^_}
 use mathlib.Core.Bool.{Bool, true, false}
 use mathlib.Core.List.{List, [], _∷_, _++_, map}
@@ -51,29 +51,17 @@ plain sizes = record { number = 0; sizes = sizes; filter = false; level = 0; pro
 abbrev refused : ℕ → List ℕ → Told
 refused n probs = record { number = n; sizes = 0 ∷ []; filter = false; level = 0; probs = probs }
 
-abbrev six : List ℕ
-six = key176x144 0x30 ++ (0x00 ∷ 0x00 ∷ [])
-
-abbrev seven : List ℕ
-seven = 0x31 ∷ 0x00 ∷ 0x00 ∷ 0x00 ∷ 0x00 ∷ []
-
 abbrev nine : List ℕ
 nine = 0x51 ∷ 0x00 ∷ 0x00 ∷ 0x00 ∷ 0x04 ∷ 0x00 ∷ 0x00 ∷ []
-
-abbrev eight : List ℕ
-eight = nine ++ (0x00 ∷ 0x00 ∷ [])
 
 abbrev eleven : List ℕ
 eleven = key176x144 0x70 ++ (0x30 ∷ 0x80 ∷ 0x00 ∷ 0x00 ∷ [])
 
 unfoldable pub twice : List Twice
 twice =
-    record { before = []; frame = six; rust = plain (1 ∷ []); standard = plain (1 ∷ []) }
-    ∷ record { before = []; frame = seven; rust = plain (1 ∷ []); standard = plain (1 ∷ []) }
-    ∷ record { before = []; frame = eight; rust = plain (0 ∷ 1 ∷ []); standard = plain (0 ∷ 1 ∷ []) }
-    ∷ record { before = []; frame = nine; rust = refused 5 (same 0); standard = refused 5 (same 0) }
     -- 10
-    ∷ record { before = []; frame = 0x31 ∷ 0x00 ∷ 0x00 ∷ 0x00 ∷ 0x04 ∷ []; rust = refused 5 (same 0); standard = plain (1 ∷ []) }
+    record { before = []; frame = 0x31 ∷ 0x00 ∷ 0x00 ∷ 0x00 ∷ 0x04 ∷ []; rust = refused 5 (same 0); standard = plain (1 ∷ []) }
+    -- 11
     ∷ record {
       before = [];
       frame = eleven;
@@ -87,7 +75,7 @@ twice =
     ∷ record { before = []; frame = 0x01 ∷ 0x00 ∷ 0x00 ∷ 0x00 ∷ []; rust = plain (1 ∷ []); standard = refused 4 (same 0) }
     ∷ []
 
--- a frame, and the bools, range, count and header_size after its header
+-- a frame that is accepted, and the bools, range, count and header_size after its header
 pub record Ends : Type 0 where
   pub frame : List ℕ
   pub state : List ℕ
@@ -99,8 +87,12 @@ ended x =
 
 unfoldable pub ends : List Ends
 ends =
-    record { frame = six; state = 1086 ∷ 194 ∷ 5 ∷ 8 ∷ [] }
-    ∷ record { frame = seven; state = 1157 ∷ 178 ∷ 3 ∷ 8 ∷ [] }
-    ∷ record { frame = eight; state = 1157 ∷ 178 ∷ 3 ∷ 16 ∷ [] }
+    -- 6
+    record { frame = key176x144 0x30 ++ (0x00 ∷ 0x00 ∷ []); state = 1086 ∷ 194 ∷ 5 ∷ 8 ∷ [] }
+    -- 7
+    ∷ record { frame = 0x31 ∷ 0x00 ∷ 0x00 ∷ 0x00 ∷ 0x00 ∷ []; state = 1157 ∷ 178 ∷ 3 ∷ 8 ∷ [] }
+    -- 8
+    ∷ record { frame = nine ++ (0x00 ∷ 0x00 ∷ []); state = 1157 ∷ 178 ∷ 3 ∷ 16 ∷ [] }
+    -- 11
     ∷ record { frame = eleven; state = 1091 ∷ 194 ∷ 0 ∷ 24 ∷ [] }
     ∷ []

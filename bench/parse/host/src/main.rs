@@ -1,15 +1,16 @@
-//! Parses every frame of the recordings by both parsers, each frame with a fresh one. Call: host FOLDER both|rattle|rust|time|stack|grown SIZE
+//! Parses every frame of the recordings by both parsers, each frame with a fresh one.
+//! Call: host FOLDER both|rattle|standard|rust|time|stack|grown SIZE
 //! `both` compares the two numbers of each frame and prints how many frames there were and a checksum; `rattle` and `rust` run one side
-//! alone; `time` prints the nanoseconds a frame of each, and the number of rounds. `stack` prints the deepest stack of one
-//! of the port's calls; `grown SIZE` parses, by the port alone, each frame that is not longer than 2,048 bytes, made SIZE bytes long at its
-//! end, which is in the last partition, and prints how many there were.
+//! alone, `standard` the port in the standard's mode; `time` prints the nanoseconds a frame of each, and the number of rounds. `stack`
+//! prints the deepest stack of one of the port's calls; `grown SIZE` parses, by the port alone, each frame that is not longer than 2,048
+//! bytes, made SIZE bytes long at its end, which is in the last partition, and prints how many there were.
 
 #[path = "../../../shared.rs"]
 mod shared;
 
 #[link(name = "bench_parse", kind = "static")]
 extern "C" {
-    fn bench_parse_frame(bytes: *const u8, length: usize) -> u64;
+    fn bench_parse_frame(bytes: *const u8, length: usize, mode: u32) -> u64;
 }
 
 /// The shortest of the lengths that `grown` is asked for.
@@ -18,9 +19,9 @@ const SHORTEST: usize = 2048;
 // The emulator's count ends at the next instruction of these, so that each must come back to itself.
 #[no_mangle]
 #[inline(never)]
-pub extern "C" fn call_rattle(bytes: *const u8, length: usize) -> u64 {
+pub extern "C" fn call_rattle(bytes: *const u8, length: usize, mode: u32) -> u64 {
     // SAFETY: the function asks nothing of a slice but that it is one.
-    std::hint::black_box(unsafe { bench_parse_frame(bytes, length) })
+    std::hint::black_box(unsafe { bench_parse_frame(bytes, length, mode) })
 }
 
 #[no_mangle]
@@ -30,7 +31,11 @@ pub extern "C" fn call_rust(bytes: *const u8, length: usize) -> u64 {
 }
 
 fn rattle(frame: &[u8]) -> u64 {
-    call_rattle(frame.as_ptr(), frame.len())
+    call_rattle(frame.as_ptr(), frame.len(), 0)
+}
+
+fn standard(frame: &[u8]) -> u64 {
+    call_rattle(frame.as_ptr(), frame.len(), 1)
 }
 
 fn rust(frame: &[u8]) -> u64 {
@@ -51,7 +56,7 @@ fn depth(frame: &[u8]) -> usize {
         unsafe { low.add(i).write_volatile(PAINT) };
     }
     // SAFETY: as in `call_rattle`; called from here, so that nothing else stands between.
-    std::hint::black_box(unsafe { bench_parse_frame(frame.as_ptr(), frame.len()) });
+    std::hint::black_box(unsafe { bench_parse_frame(frame.as_ptr(), frame.len(), 0) });
     // SAFETY: as above.
     let untouched = (0..PAINTED).take_while(|i| unsafe { low.add(*i).read_volatile() } == PAINT).count();
     top - (low as usize + untouched)
@@ -61,7 +66,7 @@ fn main() {
     let arguments: Vec<String> = std::env::args().skip(1).collect();
     let (folder, side) = match &arguments[..] {
         [folder, side, ..] => (folder, side.as_str()),
-        _ => panic!("call: host FOLDER both|rattle|rust|time|stack|grown SIZE"),
+        _ => panic!("call: host FOLDER both|rattle|standard|rust|time|stack|grown SIZE"),
     };
     let size: usize = arguments.get(2).map_or(0, |n| n.parse().expect("a size"));
     let frames = shared::frames(folder);
@@ -72,6 +77,7 @@ fn main() {
     for (name, mut frame) in frames {
         let number = match side {
             "rattle" => rattle(&frame),
+            "standard" => standard(&frame),
             "rust" => rust(&frame),
             "stack" => {
                 deepest = deepest.max(depth(&frame));

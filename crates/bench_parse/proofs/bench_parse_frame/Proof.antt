@@ -8,14 +8,20 @@ use Rattle.bench_parse.proofs.bench_parse_frame.Tie as tie
 new-requires : tie.Need-new-requires
 new-requires c κs = search needs
 
-parse-requires : tie.Need-parse-requires
-parse-requires c κs = search needs
+of-requires : tie.Need-of-requires
+of-requires c κs = search needs
+
+parse-in-requires : tie.Need-parse-in-requires
+parse-in-requires c κs = search needs
 
 number-requires : tie.Need-number-requires
 number-requires c κs = search needs
 
 returns : tie.Need-returns
-returns c = c .number .ensures ∙ ap sumOf (rw (c .before .before .new .ensures) at (c .before .parse .ensures))
+returns c =
+    let at-parse = c .before in
+    let at-mode = at-parse .before in
+    c .number .ensures ∙ ap sumOf (rw (at-mode .before .new .ensures, at-mode .of .ensures) at (at-parse .parse-in .ensures))
 
 pub bench-parse-frame-spec : {M : Type 1} → statement M
-bench-parse-frame-spec = tie.close (tie.spec new-requires parse-requires number-requires returns)
+bench-parse-frame-spec = tie.close (tie.spec new-requires of-requires parse-in-requires number-requires returns)
