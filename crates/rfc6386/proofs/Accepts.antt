@@ -61,7 +61,8 @@ pub record Reading (md : Mode) (k : Chunk) (f : List ℕ) (c : Coded) (s : Snaps
   pub seen : snapshot (bits (heldBy md k f)) (decoded md (k .key) (heldBy md k f) .then) ≡ s
   pub parts : sizes (2 ^ c .log2parts) (drop (k .size) f) (k .first) ≡ ss
 
-body-read : (md : Mode) (k : Chunk) (f : List ℕ) (c : Coded) (s : Snapshot) (ss : Option (List ℕ)) → body md k f ≡ read c s ss → Reading md k f c s ss
+body-read : (md : Mode) (k : Chunk) (f : List ℕ) (c : Coded) (s : Snapshot) (ss : Option (List ℕ))
+    → body md k f ≡ read c s ss → Reading md k f c s ss
 unfolding body headed
 body-read md k f c s ss e = go (ltb (length f) (k .size + k .first)) refl (heldBy md k f) refl e
   where
@@ -105,7 +106,8 @@ accepts-body md p f k o q = go (body md k f) refl q
     go (beyond x y) e q h = absurd (let z : _≡_ {A = ℕ} 0 1 = cc in omega arith)
     go empty e q h = absurd (let z : _≡_ {A = ℕ} 0 1 = cc in omega arith)
     go (read c s none) e q h = absurd (let z : _≡_ {A = ℕ} 0 1 = cc in omega arith)
-    go (read c s (some ss)) e q h = record { k = k; c = c; s = s; ss = ss; opens = o; reading = body-read md k f c s (some ss) e; answers = q }
+    go (read c s (some ss)) e q h =
+        record { k = k; c = c; s = s; ss = ss; opens = o; reading = body-read md k f c s (some ss) e; answers = q }
 
 pub accepted : (md : Mode) (p : Parser) (f : List ℕ) → call md p f .outcome ≡ Accepted → Accepting md p f
 unfolding call decode

@@ -1,5 +1,5 @@
--- Every case of the list is as the definition computes it in either mode, by computing. The second parser of the cases differs from the fresh one in each
--- of the 1,126 kept numbers: one computed test over the two runs of numbers, carried to each number by one lemma.
+-- Every case of the list is as the definition computes it in either mode, by computing. The second parser of the cases differs from the
+-- fresh one in each of the 1,126 kept numbers: one computed test over the two runs of numbers, carried to each number by one lemma.
 use Prim.Native.Nat.{ℕ, zero, suc, _<_}
 use native.Mathlib.Omega.{arith}
 use mathlib.Core.Path.{_≡_, refl, ap, sym, _∙_}

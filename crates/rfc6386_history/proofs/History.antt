@@ -124,7 +124,8 @@ last-writer-from p (x ∷ xs) i s = go (anyCutter xs) refl (last-writer-from (ca
     go : (b : Bool) → anyCutter xs ≡ b
         → kept (after q xs) i ≡ or (last (map (λ f. writes f i) (since xs))) (kept (pick (anyCutter xs) fresh q) i)
         → kept (after q xs) i
-        ≡ or (last (map (λ f. writes f i) (pick (anyCutter xs) (since xs) (x ∷ xs)))) (kept (pick (cutter (x .frame) || anyCutter xs) fresh p) i)
+        ≡ or (last (map (λ f. writes f i) (pick (anyCutter xs) (since xs) (x ∷ xs))))
+        (kept (pick (cutter (x .frame) || anyCutter xs) fresh p) i)
     go true e ih = rw (e, or-true) (rw e at ih)
     go false e ih =
         rw (e, or-false)

@@ -60,7 +60,8 @@ alone-bools md p q f = alone-part md p q f (λ h. h .bools) (λ k c s ss r r′.
 
 -- those are all: where the three groups of probabilities are the same too, so is the header
 pub alone-rest : (md : Mode) (p q : Parser) (f : List ℕ) → call md p f .header .«coeff_prob» ≡ call md q f .header .«coeff_prob»
-    → call md p f .header .«mv_prob» ≡ call md q f .header .«mv_prob» → call md p f .header .«mode_probs» ≡ call md q f .header .«mode_probs»
+    → call md p f .header .«mv_prob» ≡ call md q f .header .«mv_prob»
+    → call md p f .header .«mode_probs» ≡ call md q f .header .«mode_probs»
     → call md p f .header ≡ call md q f .header
 unfolding call
 alone-rest md p q f = rest-alone (decode md f) p q

@@ -126,7 +126,8 @@ module _ (md : Mode) (p : Parser) where
         go : (a b key d e g : Bool)
             → Told (finish (inside md (chunkBy f a b key d e g) f) p)
             (pick a (FrameTooLong (length f))
-            (pick (b || key && (d || e && g)) ChunkTooShort (pick (key && not d && not e) (InvalidStartCode (le3 f 3)) (afterChunk md key f))))
+            (pick (b || key && (d || e && g)) ChunkTooShort
+            (pick (key && not d && not e) (InvalidStartCode (le3 f 3)) (afterChunk md key f))))
             (baseOf key f) (coded md key f) p
         go true b key d e g = refl
         go false true key d e g = refl

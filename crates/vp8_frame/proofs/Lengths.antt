@@ -62,6 +62,7 @@ module _ (md : Mode) (p : Parser) (f : List ℕ) (h : call md p f .outcome ≡ A
   unfolding total
   length-is =
       let fills = accepted-fills md p f h in
-      let sum : total (lengths (call md p f .header)) ≡ length f = ap total (sym (fills .each)) ∙ joined-length _ ∙ ap length (fills .whole) in
+      let sum : total (lengths (call md p f .header)) ≡ length f =
+      ap total (sym (fills .each)) ∙ joined-length _ ∙ ap length (fills .whole) in
       let fits : length f < 2 ^ 28 = short f _ (accepted md p f h .opens) in
       rw partitions-are (ap (λ (n : ℕ). n % 2 ^ 64) sum ∙ mod-eq-of-lt (omega (arith, fits)))

@@ -20,7 +20,8 @@ viewed EndOfHeader f = []
 viewed (FrameTooLong length) f = []
 
 -- over a record that held p, a frame f in this mode: the answer's fields, the bytes it refers to, and what the record holds afterwards
-pub record Framed (md : Mode) (p : Parser) (f : List ℕ) (outcome : Outcome) (header : Header) (part : List ℕ) (after : Parser) : Type 0 where
+pub record Framed (md : Mode) (p : Parser) (f : List ℕ) (outcome : Outcome) (header : Header) (part : List ℕ) (after : Parser)
+    : Type 0 where
   pub says : outcome ≡ call md p f .outcome
   pub reads : header ≡ call md p f .header
   pub refers : part ≡ viewed (call md p f .outcome) f

@@ -35,8 +35,8 @@ fn part_of<'a>(bytes: &'a [u8], outcome: Outcome) -> &'a [u8]
 
 // One call over a lent parser, which holds the new state when it returns, also where the frame is refused.
 pub fn parse_frame_in<'s, 'a>(parser: &'s mut Parser, bytes: &'a [u8], mode: Mode) -> Frame<'a>
-    ensures { λ r. ⌜ Framed mode (now (parser .entry)) (now (bytes .entry)) (r .outcome) (r .header) (now (r .bitstream)) (now (parser .exit))
-        × (r .bitstream .ptr ≡ bytes .entry .ptr) ⌝ }
+    ensures { λ r. ⌜ Framed mode (now (parser .entry)) (now (bytes .entry)) (r .outcome) (r .header) (now (r .bitstream))
+        (now (parser .exit)) × (r .bitstream .ptr ≡ bytes .entry .ptr) ⌝ }
 {
     let parsed = vp8_parser::parse_in(*parser, bytes, mode);
     *parser = parsed.parser;
@@ -50,8 +50,8 @@ pub fn parse_frame_in<'s, 'a>(parser: &'s mut Parser, bytes: &'a [u8], mode: Mod
 
 // The same as the Rust reads.
 pub fn parse_frame<'s, 'a>(parser: &'s mut Parser, bytes: &'a [u8]) -> Frame<'a>
-    ensures { λ r. ⌜ Framed Rust (now (parser .entry)) (now (bytes .entry)) (r .outcome) (r .header) (now (r .bitstream)) (now (parser .exit))
-        × (r .bitstream .ptr ≡ bytes .entry .ptr) ⌝ }
+    ensures { λ r. ⌜ Framed Rust (now (parser .entry)) (now (bytes .entry)) (r .outcome) (r .header) (now (r .bitstream))
+        (now (parser .exit)) × (r .bitstream .ptr ≡ bytes .entry .ptr) ⌝ }
 {
     parse_frame_in(parser, bytes, Mode::Rust)
 }

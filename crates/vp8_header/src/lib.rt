@@ -163,13 +163,7 @@ pub struct Headed {
 }
 
 // From the first flag to the filter's sharpness (RFC 6386 sections 9.2 to 9.4).
-fn parse_first(
-    area: &[u8],
-    dec: BoolDecoder,
-    key: bool,
-    seg: Segmentation,
-    mode: Mode,
-) -> FirstRead
+fn parse_first(area: &[u8], dec: BoolDecoder, key: bool, seg: Segmentation, mode: Mode) -> FirstRead
     requires { ⌜ Good (now area) dec 111 ⌝ }
     ensures { λ r. ⌜ Ran (make (firstOf seg) (first mode key)) (now (area .entry)) dec (r .first) (r .dec) 111 ⌝ }
 {

@@ -81,14 +81,15 @@ module _ (p : Parser) (ms ns f : List ℕ) (at i end : ℕ) (m : Mode) (r : Pars
   next-is : asked (drop i ms) (cuts (drop i ns) (drop at f)) ≡ record { mode = m; frame = take (end - at) (drop at f) } ∷ rest
   next-is =
       ap (λ (fs : List (List ℕ)). asked (drop i ms) fs) first-is ∙ asked-first ms i _ _
-      ∙ ap₂ {C = List Asked} (λ x k. record { mode = x; frame = take (end - at) (drop at f) } ∷ asked (drop k ms) (cuts (drop (i + 1) ns) (drop end f)))
-      (sym w) (sym (add-one i))
+      ∙ ap₂ {C = List Asked}
+      (λ x k. record { mode = x; frame = take (end - at) (drop at f) } ∷ asked (drop k ms) (cuts (drop (i + 1) ns) (drop end f))) (sym w) (sym (add-one i))
 
   state-next : after p (asked (drop i ms) (cuts (drop i ns) (drop at f))) ≡ after (r .parser) rest
   unfolding after
   state-next = ap (λ (xs : List Asked). after p xs) next-is ∙ ap (λ (x : Parsed). after (x .parser) rest) (sym q)
 
-  answers-next : accepted (calls p (asked (drop i ms) (cuts (drop i ns) (drop at f)))) ≡ one (r .outcome) + accepted (calls (r .parser) rest)
+  answers-next : accepted (calls p (asked (drop i ms) (cuts (drop i ns) (drop at f))))
+      ≡ one (r .outcome) + accepted (calls (r .parser) rest)
   unfolding calls accepted
   answers-next =
       ap (λ (xs : List Asked). accepted (calls p xs)) next-is

@@ -66,7 +66,8 @@ fn mode_at(modes: &[u8], i: usize) -> Mode
 // The frames stand one after another in `bytes`, with these lengths. Each is read in its own mode: 0 is the Rust's, any other number the
 // standard's; a frame beyond the modes is read as the Rust reads.
 pub fn parse_frames_in(parser: Parser, bytes: &[u8], lengths: &[u32], modes: &[u8]) -> Folded
-    ensures { λ r. ⌜ Folds parser (asked (now (modes .entry)) (cuts (now (lengths .entry)) (now (bytes .entry)))) (r .parser) (r .accepted) ⌝ }
+    ensures { λ r. ⌜ Folds parser (asked (now (modes .entry)) (cuts (now (lengths .entry)) (now (bytes .entry)))) (r .parser)
+        (r .accepted) ⌝ }
 {
     let mut state = parser;
     let mut count: usize = 0;

@@ -16,8 +16,10 @@ use prog.Wp.{Heap, Calls, Loops, WpFn, Tables}
 use ghost.Atoms.{Atoms, sem}
 use contract.Monad.{Fun, fact}
 use contract.Running.{givenOf, tables, tablesOf}
-use types.Kit.{Given, Item, ‵, raw, _⊛_, ⋆, some, later, _$_, _∵_, !, qed, by, move, drop, use1, use2, split, join, pick, fsplit, fjoin, suffices, frame, await, done}
-use types.Run.{look, init, forget, stop, hop, from, load, lit, addr, and-then, no-more, assigns, land, returns, enter, alloc1, alloc0, params1, pass1, pass0, free1, free0}
+use types.Kit.{Given, Item, ‵, raw, _⊛_, ⋆, some, later, _$_, _∵_, !, qed, by, move, drop, use1, use2, split, join, pick}
+use types.Kit.{fsplit, fjoin, suffices, frame, await, done}
+use types.Run.{look, init, forget, stop, hop, from, load, lit, addr, and-then, no-more, assigns, land, returns}
+use types.Run.{enter, alloc1, alloc0, params1, pass1, pass0, free1, free0}
 use types.Part.{agg}
 use sound.WpLaws.{FmC, fmOf, WpFn-mono}
 use denote.RattleType.{RattleType, owns}
@@ -34,7 +36,8 @@ use denote.Triple.Call.{calls-at}
 use denote.Triple.Entry.{Vals, onEntry}
 use denote.Triple.Spec.{Meets, tripleOf}
 use denote.Triple.Table.{entered, cited}
-use denote.Triple.Walked.{says, Stays, gave-ref, stay-none-slice, walkOf, goes-gave-ref, goes-none-slice, Walks, ends-at, walked, walk-meets}
+use denote.Triple.Walked.{says, Stays, gave-ref, stay-none-slice, walkOf, goes-gave-ref, goes-none-slice, Walks, ends-at, walked}
+use denote.Triple.Walked.{walk-meets}
 use denote.Exit.{yes}
 use denote.Triple.Clauses.{Lasts, ensured, lasts}
 use Rattle.vp8_records.specs.declared.Mode.{Mode}
@@ -163,8 +166,8 @@ module _ {M : Type 1} (𝓤 : URA M) (H : Heap 𝓤) (A : Atoms 𝓤) (W : Given
         use1 W (later (some (λ (r : Frame). (Tokens ⊛ ‵ (F.the-row α .own r (u ∷ []))) ⊛ raw
         (ensured 𝓤 H A inner.ended (inner.clauses 𝓤 H A at-mem run) (κ, (κ′, tt)) a′ tt r)))) (id⊢ 𝓤 _) $ await ! tt $ pick ! (λ r.
         split ! $ move ! (1 ∷ []) $
-        use1 W (some (λ (ws : Lasts inner.ended (κ, (κ′, tt)) a′). ‵ (lasts inner.ended (κ, (κ′, tt)) a′ ws) ⊛ raw (fact 𝓤 (Said r (ws .0)))))
-        (id⊢ 𝓤 _) $ pick ! (λ ws.
+        use1 W (some (λ (ws : Lasts inner.ended (κ, (κ′, tt)) a′).
+        ‵ (lasts inner.ended (κ, (κ′, tt)) a′ ws) ⊛ raw (fact 𝓤 (Said r (ws .0))))) (id⊢ 𝓤 _) $ pick ! (λ ws.
         split ! $ move ! (1 ∷ []) $ heard ! (Said r (ws .0)) (λ e. fsplit ! $ move ! (2 ∷ []) $ split ! $ move ! (1 ∷ []) $
         -- [what the frame owns; the tokens; the last value; no more; what bytes owns; _4; …; _3; …; _2; …; _1; …; room for _0; …]
         peeks ! (F.the-row α) (Is (F.the-row α)) (shows 𝓤 H A (F.the-row α)) r (u ∷ []) (λ is.

@@ -1,7 +1,7 @@
 -- `vp8_frame::parse_frame_in` meets its contract: a walk of its MIR, by hand. The borrow is opened, the record is copied out and passed to
--- `parse_in` with the slice and the mode, the record that came back is stored, and the borrow is closed at it; then `part_of` gives the part, and the
--- frame is put together. Of the two callees the walk knows that they meet their contracts, and no more. The machine values of a record's
--- parts stay shut, and where a field lies is said by a lemma: the walk has no need to compute either.
+-- `parse_in` with the slice and the mode, the record that came back is stored, and the borrow is closed at it; then `part_of` gives the
+-- part, and the frame is put together. Of the two callees the walk knows that they meet their contracts, and no more. The machine values
+-- of a record's parts stay shut, and where a field lies is said by a lemma: the walk has no need to compute either.
 use mathlib.Core.Path.{_≡_, refl, ap, _∙_, subst}
 use Prim.Native.Nat.{ℕ}
 use mathlib.Core.List.{[], _∷_, List}
@@ -127,8 +127,8 @@ module _ {M : Type 1} (𝓤 : URA M) (H : Heap 𝓤) (A : Atoms 𝓤) (W : Given
   to = (((κ′, tt), (q′, tt), tt, (h, (s, (md, tt))), passed), tt)
 
   asked : ent 𝓤 (onEntry 𝓤 H A parse.signature (κ′, tt) (q′, tt) (h, (s, (md, tt))) passed) (Parse 𝓤 H A at-mem run .pre to)
-  asked = qed W ((‵ (flft κ′ q′) ⊛ ‵ ftrue) ∷ ‵ (owns (R ∷ ShrSlice (named 0) κ′ u8 ∷ Mo.the-row ∷ []) (h, (s, (md, tt))) passed) ∷ []) ∵ join ! $ frame ! $
-      done !
+  asked = qed W ((‵ (flft κ′ q′) ⊛ ‵ ftrue) ∷ ‵ (owns (R ∷ ShrSlice (named 0) κ′ u8 ∷ Mo.the-row ∷ []) (h, (s, (md, tt))) passed) ∷ []) ∵
+      join ! $ frame ! $ done !
 
   -- the token and the slice give what the callee asks, and the slice is kept
   gives : Is R h (mach ∷ []) → ent 𝓤 (⋆ 𝓤 H A ((‵ (flft κ′ q′) ⊛ ‵ ftrue) ∷ ‵
@@ -140,7 +140,8 @@ module _ {M : Type 1} (𝓤 : URA M) (H : Heap 𝓤) (A : Atoms 𝓤) (W : Given
       move ! (2 ∷ 0 ∷ []) $ use2 W (raw (Parse 𝓤 H A at-mem run .pre to)) asked $ frame ! $ done !
 
   -- of the callee's `ensured`, the clause alone
-  said : (r : Parsed) → ent 𝓤 (ensured 𝓤 H A parse.ended (parse.clauses 𝓤 H A at-mem run) (κ′, tt) (h, (s, (md, tt))) tt r) (fact 𝓤 (r ≡ found))
+  said : (r : Parsed)
+      → ent 𝓤 (ensured 𝓤 H A parse.ended (parse.clauses 𝓤 H A at-mem run) (κ′, tt) (h, (s, (md, tt))) tt r) (fact 𝓤 (r ≡ found))
   said r = exE 𝓤 _ (λ ws. snd∗ 𝓤 (sem 𝓤 H A (lasts parse.ended (κ′, tt) (h, (s, (md, tt))) ws)) (fact 𝓤 (r ≡ found)))
 
   -- the frame's type, at the second lifetime
@@ -194,7 +195,8 @@ module _ {M : Type 1} (𝓤 : URA M) (H : Heap 𝓤) (A : Atoms 𝓤) (W : Given
   unfolding hval oval
   frame-is r u is t p = LL.owes (F.the-type α) (F′.the-laws α) (frm r t) (outcome-is r u is, (header-is r u is, (p, tt)))
 
-  exits : Is Mo.the-row md (m ∷ []) → (r : Parsed) (u : Val) → Is P.the-row r (u ∷ []) → (t : RefT (List ℕ)) → r ≡ found → Refers (r .outcome) t
+  exits : Is Mo.the-row md (m ∷ [])
+      → (r : Parsed) (u : Val) → Is P.the-row r (u ∷ []) → (t : RefT (List ℕ)) → r ≡ found → Refers (r .outcome) t
       → ent 𝓤 (⋆ 𝓤 H A (‵ (ShrSlice (named 0) κ′ u8 .own t (vof t ∷ [])) ∷ (‵ (flft κ′ q′) ⊛ ‵ ftrue) ∷ ‵ Own ∷ ‵
       (fobs γ (R .coded .code (r .parser))) ∷ ‵ (fbor κ (Body (mem R) b o γ)) ∷ ‵ (flft κ q) ∷ [])) (Post (fval (frm r t)))
   unfolding hval oval
@@ -223,10 +225,12 @@ module _ {M : Type 1} (𝓤 : URA M) (H : Heap 𝓤) (A : Atoms 𝓤) (W : Given
 
   module _ (C : Calls 𝓤 H) (Λ : Loops 𝓤 H) (fm : FmC 𝓤 H (W .laws) C) (known : Triple 𝓤 (C #parse) (Parse 𝓤 H A at-mem run))
       (known′ : Triple 𝓤 (C #part) (Part 𝓤 H A at-mem run)) where
-    walk : Is (ShrSlice (named 1) κ′ u8) s (v ∷ []) → Is Mo.the-row md (m ∷ []) → ent 𝓤 (onEntry 𝓤 H A frame′.signature (κ, (κ′, tt)) (q, (q′, tt)) a vals)
+    walk : Is (ShrSlice (named 1) κ′ u8) s (v ∷ []) → Is Mo.the-row md (m ∷ [])
+        → ent 𝓤 (onEntry 𝓤 H A frame′.signature (κ, (κ′, tt)) (q, (q′, tt)) a vals)
         (WpFn 𝓤 H C Λ code.function (vptr b o ∷ v ∷ m ∷ []) Post)
     walk p fits =
-        qed W ((‵ (flft κ q) ⊛ ‵ (flft κ′ q′) ⊛ ‵ ftrue) ∷ ‵ (owns (MutRef (named 0) κ R ∷ ShrSlice (named 1) κ′ u8 ∷ Mo.the-row ∷ []) a vals) ∷ []) ∵
+        qed W ((‵ (flft κ q) ⊛ ‵ (flft κ′ q′) ⊛ ‵ ftrue) ∷ ‵
+        (owns (MutRef (named 0) κ R ∷ ShrSlice (named 1) κ′ u8 ∷ Mo.the-row ∷ []) a vals) ∷ []) ∵
         enter ! C Λ code.function (vptr b o ∷ v ∷ m ∷ []) _ $
         alloc1 ! (λ l₀. alloc1 ! (λ l₁. alloc1 ! (λ l₂. alloc1 !
         (λ l₃. alloc1 ! (λ l₄. alloc1 ! (λ l₅. alloc1 ! (λ l₆. alloc0 ! $ params1 ! $ pass1 ! (init ! 10 refl (tt, tt)) $
@@ -237,7 +241,7 @@ module _ {M : Type 1} (𝓤 : URA M) (H : Heap 𝓤) (A : Atoms 𝓤) (W : Given
         opens ! tt R {h = h} b o (λ vs. spelt ! R (Is R) (shows 𝓤 H A R) (LL.vals T.the-type T′.the-laws)
         (LL.tells T.the-type T′.the-laws) fullShare h vs b o $
         move ! (1 ∷ []) $ peeks ! R (Is R) (shows 𝓤 H A R) h (mach ∷ []) (λ g. drop ! $
-        -- [the record's cell; the open borrow; obs; auth; the second token; what bytes owns; _5; …; _4; …; _3; …; _2; …; _1; …; room for
+        -- [the record's cell; the open borrow; obs; auth; the second token; what bytes owns; _6; …; _5; …; _4; …; _3; …; _2; …; _1; …; room for
         -- _0; …]
         assigns ! (of-opd ! (load ! (from ! (hop ! (look ! 16 refl) (stop !))) (look-raw ! 0 refl))) (from ! (stop !))
         (init ! 6 refl (LL.lawful T.the-type T′.the-laws 𝓤 H A W .typed h _ g .0)) $
@@ -246,10 +250,11 @@ module _ {M : Type 1} (𝓤 : URA M) (H : Heap 𝓤) (A : Atoms 𝓤) (W : Given
         (and-then ! (load ! (from ! (stop !)) (look ! 14 refl))
         (and-then ! (load ! (from ! (stop !)) (look ! 12 refl)) (no-more !)))) (λ u.
         use1 W (later (some (λ (r : Parsed). ((‵ (flft κ′ q′) ⊛ ‵ ftrue) ⊛ ‵ (P.the-row .own r (u ∷ []))) ⊛ raw
-        (ensured 𝓤 H A parse.ended (parse.clauses 𝓤 H A at-mem run) (κ′, tt) (h, (s, (md, tt))) tt r)))) (id⊢ 𝓤 _) $ await ! tt $ pick ! (λ r.
+        (ensured 𝓤 H A parse.ended (parse.clauses 𝓤 H A at-mem run) (κ′, tt) (h, (s, (md, tt))) tt r)))) (id⊢ 𝓤 _) $ await ! tt $
+        pick ! (λ r.
         split ! $ move ! (1 ∷ []) $ use1 W (raw (fact 𝓤 (r ≡ found))) (said r) $ heard ! (r ≡ found) (λ e. split ! $ move ! (1 ∷ []) $
         peeks ! P.the-row (Is P.the-row) (shows 𝓤 H A P.the-row) r (u ∷ []) (λ is. drop ! $
-        -- [the second token; what bytes owns; the record's cell; the open borrow; obs; auth; _5; …; _4; …; room for _3; …; _2; …; _1; …;
+        -- [the second token; what bytes owns; the record's cell; the open borrow; obs; auth; _6; …; _5; …; room for _4; …; _3; …; _2; …; _1; …;
         -- room for _0; …]
         land ! (from ! (stop !)) (init ! 10 refl (LL.lawful P.the-type P′.the-laws 𝓤 H A W .typed r _ is .0)) $
         rewrite ! 10 (λ (w : Val). ‵ (fat fullShare P′.mir l₄ 0 w)) (value-is r u is) refl $
@@ -259,7 +264,7 @@ module _ {M : Type 1} (𝓤 : URA M) (H : Heap 𝓤) (A : Atoms 𝓤) (W : Given
         (LL.lawful T.the-type T′.the-laws 𝓤 H A W .typed (r .parser) _ (parser-is r u is) .0)) $
         owned ! R (Is R) (LL.makes T.the-type T′.the-plain 𝓤 H A) (r .parser) _ (parser-is r u is) $ move ! (3 ∷ 0 ∷ 4 ∷ 5 ∷ 6 ∷ []) $
         closes ! tt R (r .parser) (mval (r .parser) ∷ []) b o $
-        -- [obs; the borrow; the token; the second token; what bytes owns; _5; …; _4; …; _3; …; _2; …; _1; …; _0; …]
+        -- [obs; the borrow; the token; the second token; what bytes owns; _6; …; _5; …; _4; …; _3; …; _2; …; _1; …; _0; …]
         move ! (3 ∷ 4 ∷ []) $ use2 W (raw (Part 𝓤 H A at-mem run .pre (to′ (r .outcome))) ⊛ ‵ Own)
         (gives′ (r .outcome) (outcome-is r u is)) $ split ! $
         calls-at ! fm (Part 𝓤 H A at-mem run) known′ (to′ (r .outcome))
@@ -270,7 +275,7 @@ module _ {M : Type 1} (𝓤 : URA M) (H : Heap 𝓤) (A : Atoms 𝓤) (W : Given
         pick ! (λ t.
         split ! $ move ! (1 ∷ []) $ use1 W (raw (fact 𝓤 (Refers (r .outcome) t))) (said′ (r .outcome) t) $
         heard ! (Refers (r .outcome) t) (λ e′. split ! $ move ! (1 ∷ []) $
-        -- [what the part owns; the second token; what bytes owns; obs; the borrow; the token; _5; …; _4; …; _3; …; _2; …; _1; …; _0; …]
+        -- [what the part owns; the second token; what bytes owns; obs; the borrow; the token; _6; …; _5; …; _4; …; _3; …; _2; …; _1; …; _0; …]
         peeks ! (ShrSlice (named 0) κ′ u8) (Is (ShrSlice (named 0) κ′ u8)) (shows 𝓤 H A (ShrSlice (named 0) κ′ u8)) t (w ∷ []) (λ is′.
         rewrite ! 0 (λ (x : Val). ‵ (ShrSlice (named 0) κ′ u8 .own t (x ∷ [])))
         (ap only (shr-slice-tells (named 0) κ′ u8 t (w ∷ []) is′)) refl $
@@ -285,7 +290,8 @@ module _ {M : Type 1} (𝓤 : URA M) (H : Heap 𝓤) (A : Atoms 𝓤) (W : Given
         (frame-is r u is t (part-is t w is′)) .0)) $
         returns ! (look ! 18 refl) $ forget ! 6 refl $ forget ! 8 refl $ forget ! 10 refl $ forget ! 12 refl $ forget ! 14 refl $
         forget ! 16 refl $ forget ! 18 refl $
-        move ! (18 ∷ 19 ∷ []) $ free1 ! $ move ! (16 ∷ 17 ∷ []) $ free1 ! $ move ! (14 ∷ 15 ∷ []) $ free1 ! $ move ! (12 ∷ 13 ∷ []) $ free1 ! $ move ! (10 ∷ 11 ∷ []) $
+        move ! (18 ∷ 19 ∷ []) $ free1 ! $
+        move ! (16 ∷ 17 ∷ []) $ free1 ! $ move ! (14 ∷ 15 ∷ []) $ free1 ! $ move ! (12 ∷ 13 ∷ []) $ free1 ! $ move ! (10 ∷ 11 ∷ []) $
         free1 ! $ move ! (8 ∷ 9 ∷ []) $ free1 ! $ move ! (6 ∷ 7 ∷ []) $ free1 ! $ free0 ! $
         by ! (exits fits r u is t e e′))))))))))))))))))
 
@@ -294,7 +300,8 @@ module _ {M : Type 1} (𝓤 : URA M) (H : Heap 𝓤) (A : Atoms 𝓤) (W : Given
       → Triple 𝓤 (C #part) (Part 𝓤 H A mem run) → Walks 𝓤 H A frame′.ended stayed (WpFn 𝓤 H C Λ code.function)
       (frame′.clauses 𝓤 H A mem run)
   frame-walks C Λ fm known known′ = walked 𝓤 H A frame′.ended stayed (frame′.clauses 𝓤 H A mem run) (WpFn 𝓤 H C Λ code.function)
-      (λ κs. (ptr-vals, (slice-vals, (EL.vals Mo.the-type Mo′.the-laws, tt)))) (λ κs. (mut-tells (named 0) (κs .0) R, (shr-slice-tells (named 1) (κs .1 .0) u8, (EL.tells Mo.the-type Mo′.the-laws, tt))))
+      (λ κs. (ptr-vals, (slice-vals, (EL.vals Mo.the-type Mo′.the-laws, tt))))
+      (λ κs. (mut-tells (named 0) (κs .0) R, (shr-slice-tells (named 1) (κs .1 .0) u8, (EL.tells Mo.the-type Mo′.the-laws, tt))))
       (λ κs qs bounds a g are. via 𝓤 _ (fst∗ 𝓤 _ (emp 𝓤)) (walk 𝓤 H A W mem run (κs .0) (κs .1 .0) (qs .0) (qs .1 .0) (a .0 .ptr .0)
       (a .0 .ptr .1) (a .0 .name) (a .0 .now) (a .1 .0) (a .1 .1 .0) C Λ fm known known′ (are .1 .0) (are .1 .1 .0)))
 

@@ -26,8 +26,11 @@ compute-partition-sizes-requires : tie.Need-compute-partition-sizes-requires
 unfolding headedOf headerOf
 compute-partition-sizes-requires c κs =
     let at-header = c .before .before in
-    let start = at-header .before .before .before in
-    (rw (at-header .parse-frame-header .ensures) (few (start .args .mode) (start .args .chunk .«key_frame») (now (start .args .held))), start .pre)
+    let start = at-header .before .before .before in (
+      rw (at-header .parse-frame-header .ensures)
+          (few (start .args .mode) (start .args .chunk .«key_frame») (now (start .args .held))),
+      start .pre,
+    )
 
 refused-requires : tie.Need-refused-requires
 refused-requires c κs = search needs

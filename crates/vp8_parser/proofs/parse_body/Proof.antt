@@ -82,7 +82,8 @@ returns-3 c =
     let k : Chunk = chunkOf (a .chunk) in
     let f : List ℕ = now (a .bytes) in
     let rest = area-is (k .size) f in
-    let h : now (at-held .held .result) ≡ heldBy (a .mode) k f = at-held .held .ensures ∙ ap (λ (area : List ℕ). held (a .mode) (k .first) area) rest in
+    let h : now (at-held .held .result) ≡ heldBy (a .mode) k f =
+    at-held .held .ensures ∙ ap (λ (area : List ℕ). held (a .mode) (k .first) area) rest in
     c .parse-area .ensures
     ∙ ap₂ {C = Parsed} (λ area bytes. sizedOf (a .mode) k area bytes (at-base .base-of .result)) rest h
     ∙ rw (at-base .base-of .ensures)
