@@ -1,4 +1,4 @@
-// The compressed frame header of parser.rs, read in three stages over the whole area, and the state that it leaves.
+// The compressed frame header of parser.rs, read in three stages over the bytes that the decoder may read, and the state that it leaves.
 use bool_decoder::BoolDecoder;
 use vp8_records::CoeffProbs;
 use vp8_records::Header;
