@@ -11,11 +11,11 @@ use lib.IntN.{pos}
 use lib.ListN.{length}
 use Rattle.vp8_probs.specs.Tables.{coeffUpdate, mvUpdate}
 use Rattle.vp8_records.specs.declared.Mode.{Mode}
-use Rattle.rfc6386.specs.Decoder.{State, start, bits, readBool}
+use Rattle.rfc6386.specs.Decoder.{State, start, bits, readBool, pick}
 use Rattle.rfc6386.specs.Reads.{Rd, ret, ask, flag, when, lit, sint, times, each, maybe}
-use Rattle.rfc6386.specs.Coded.{Features, Segments, Deltas, Inter, anew, features, noFeatures, mapped, segments, deltas, quant}
+use Rattle.rfc6386.specs.Coded.{Features, Segments, Deltas, Inter, Coded, anew, features, noFeatures, mapped, segments, deltas, quant}
 use Rattle.rfc6386.specs.Coded.{refresh, coefficients, motion, modes, inter, noInter, header}
-use Rattle.rfc6386.specs.Holds.{AllRanged, Group, Fits}
+use Rattle.rfc6386.specs.Holds.{AllRanged, Group, Mapped, Fits}
 use Rattle.rfc6386.proofs.Trees.{Always, always-ret, always-bind, always-skip, lit-small}
 use Rattle.rfc6386.proofs.Range.{Asks, split-within, read-within}
 use Rattle.rfc6386.proofs.Counts.{asks-header}
@@ -81,18 +81,29 @@ of-features =
     always-bind (Long 4) OfFeatures q _ (anew-long 4 (sint 7) (pos 0)) (λ qs hq.
     always-bind (Long 4) OfFeatures v _ (anew-long 4 (sint 6) (pos 0)) (λ vs hv. always-ret OfFeatures _ (inr hq, inr hv))))
 
-abbrev OfSegments : Segments → Type 0
-OfSegments g = Group 4 (g .quantizers) × Group 4 (g .levels) × Group 3 (g .probs)
+-- n options where the test holds, and none where not
+exactly-if : {A : Type 0} (n : ℕ) (b : Bool) (m : Rd (List A)) → Always (Long n) m → Always (Long (pick b n 0)) (when b m [])
+unfolding when
+exactly-if n true m h = h
+exactly-if n false m h = always-ret (Long 0) [] refl
 
-of-segments : (md : Mode) → Always OfSegments (segments md)
+pick-group : {A : Type 0} (n : ℕ) (b : Bool) (us : List A) → Long (pick b n 0) us → Group n us
+pick-group n true us h = inr h
+pick-group n false [] h = inl refl
+pick-group n false (u ∷ us) h = absurd (omega (arith, h))
+
+abbrev OfSegments : Mode → Segments → Type 0
+OfSegments md g = Group 4 (g .quantizers) × Group 4 (g .levels) × Mapped md g
+
+of-segments : (md : Mode) → Always (OfSegments md) (segments md)
 unfolding segments
 of-segments md =
-    always-skip OfSegments flag _ (λ e. always-skip OfSegments (when e flag false) _ (λ m.
-    always-skip OfSegments (when e flag false) _ (λ d.
-    always-bind OfFeatures OfSegments (when d features noFeatures) _
+    let P : Segments → Type 0 = OfSegments md in
+    always-skip P flag _ (λ e. always-skip P (when e flag false) _ (λ m. always-skip P (when e flag false) _ (λ d.
+    always-bind OfFeatures P (when d features noFeatures) _
     (under OfFeatures d features noFeatures of-features (inl refl, inl refl)) (λ f hf.
-    always-bind (Group 3) OfSegments (when (mapped md m d) (anew 3 (lit 8) 255) []) _
-    (group-if 3 (mapped md m d) _ (anew-long 3 (lit 8) 255)) (λ p hp. always-ret OfSegments _ (hf .0, hf .1, hp))))))
+    always-bind (Long (pick (mapped md m d) 3 0)) P (when (mapped md m d) (anew 3 (lit 8) 255) []) _
+    (exactly-if 3 (mapped md m d) _ (anew-long 3 (lit 8) 255)) (λ p hp. always-ret P _ (hf .0, hf .1, hp))))))
 
 abbrev OfDeltas : Deltas → Type 0
 OfDeltas d = Group 4 (d .frames) × Group 4 (d .modes)
@@ -131,24 +142,26 @@ of-inter =
     always-bind (Long 38) OfInter motion _ of-motion (λ m hm. always-ret OfInter _ (hy, hc, inr hm)))))))
 
 -- every header, over any bytes
-pub header-fits : (md : Mode) (key : Bool) → Always Fits (header md key)
+pub header-fits : (md : Mode) (key : Bool) → Always (Fits md) (header md key)
 unfolding header
 header-fits md key =
+    let P : Coded → Type 0 = Fits md in
     let nothing : OfInter noInter = (inl refl, inl refl, inl refl) in
-    always-skip Fits (when key flag false) _ (λ cs. always-skip Fits (when key flag false) _ (λ ct.
-    always-bind OfSegments Fits (segments md) _ (of-segments md) (λ sg hs.
-    always-skip Fits flag _ (λ ft. always-skip Fits (lit 6) _ (λ ll. always-skip Fits (lit 3) _ (λ sh.
-    always-bind OfDeltas Fits deltas _ of-deltas (λ ds hd.
-    always-bind (λ x. x < 4) Fits (lit 2) _ (lit-small 2) (λ lp few.
-    always-skip Fits quant _ (λ q. always-skip Fits (refresh key) _ (λ rf.
-    always-bind (Long 1056) Fits coefficients _ of-coefficients (λ co hc.
-    always-skip Fits flag _ (λ sk. always-skip Fits (when sk (lit 8) 0) _ (λ sp.
-    always-bind OfInter Fits (when (not key) inter noInter) _ (under OfInter (not key) inter noInter of-inter nothing) (λ it hi.
-    always-ret Fits _
+    always-skip P (when key flag false) _ (λ cs. always-skip P (when key flag false) _ (λ ct.
+    always-bind (OfSegments md) P (segments md) _ (of-segments md) (λ sg hs.
+    always-skip P flag _ (λ ft. always-skip P (lit 6) _ (λ ll. always-skip P (lit 3) _ (λ sh.
+    always-bind OfDeltas P deltas _ of-deltas (λ ds hd.
+    always-bind (λ x. x < 4) P (lit 2) _ (lit-small 2) (λ lp few.
+    always-skip P quant _ (λ q. always-skip P (refresh key) _ (λ rf.
+    always-bind (Long 1056) P coefficients _ of-coefficients (λ co hc.
+    always-skip P flag _ (λ sk. always-skip P (when sk (lit 8) 0) _ (λ sp.
+    always-bind OfInter P (when (not key) inter noInter) _ (under OfInter (not key) inter noInter of-inter nothing) (λ it hi.
+    always-ret P _
     (record {
       quantizers = hs .0;
       levels = hs .1;
-      probs = hs .2;
+      probs = pick-group 3 (mapped md (sg .updateMap) (sg .updateData)) (sg .probs) (hs .2);
+      map = hs .2;
       frames = hd .0;
       modes = hd .1;
       log2parts = few;

@@ -4,9 +4,10 @@ use mathlib.Core.Logic.{_⊎_}
 use mathlib.Core.Path.{_≡_}
 use mathlib.Core.List.{List, []}
 use lib.ListN.{length}
-use Rattle.rfc6386.specs.Decoder.{State, split, readBool}
+use Rattle.vp8_records.specs.declared.Mode.{Mode}
+use Rattle.rfc6386.specs.Decoder.{State, split, readBool, pick}
 use Rattle.rfc6386.specs.Reads.{Rd, ret, ask}
-use Rattle.rfc6386.specs.Coded.{Coded}
+use Rattle.rfc6386.specs.Coded.{Segments, mapped, Coded}
 
 -- a read at the probability p: S lies in 1 .. R − 1, and R returns to 128 .. 255
 pub record Ranged (l p : ℕ) (s : State) : Type 0 where
@@ -24,11 +25,16 @@ AllRanged (ask p k) l s = Ranged l p s × AllRanged (k (readBool l p s .got)) l 
 abbrev pub Group : {A : Type 0} → ℕ → List A → Type 0
 Group n us = (us ≡ []) ⊎ (length us ≡ n)
 
+-- the segment probabilities are coded just where the mode and the flags say
+abbrev pub Mapped : Mode → Segments → Type 0
+Mapped md g = length (g .probs) ≡ pick (mapped md (g .updateMap) (g .updateData)) 3 0
+
 -- each group is as long as its record's run, so that nothing of it is dropped when it is written over that; at most 8 partitions
-pub record Fits (c : Coded) : Type 0 where
+pub record Fits (md : Mode) (c : Coded) : Type 0 where
   pub quantizers : Group 4 (c .segments .quantizers)
   pub levels : Group 4 (c .segments .levels)
   pub probs : Group 3 (c .segments .probs)
+  pub map : Mapped md (c .segments)
   pub frames : Group 4 (c .deltas .frames)
   pub modes : Group 4 (c .deltas .modes)
   pub log2parts : c .log2parts < 4

@@ -48,7 +48,7 @@ pub fn parse_frame_in<'s, 'a>(parser: &'s mut Parser, bytes: &'a [u8], mode: Mod
     }
 }
 
-// The same as the Rust reads.
+// One call over a lent parser, read as the Rust reads.
 pub fn parse_frame<'s, 'a>(parser: &'s mut Parser, bytes: &'a [u8]) -> Frame<'a>
     ensures { λ r. ⌜ Framed Rust (now (parser .entry)) (now (bytes .entry)) (r .outcome) (r .header) (now (r .bitstream))
         (now (parser .exit)) × (r .bitstream .ptr ≡ bytes .entry .ptr) ⌝ }

@@ -304,7 +304,7 @@ pub fn parse_in(parser: Parser, bytes: &[u8], mode: Mode) -> Parsed
     }
 }
 
-// The same as the Rust reads.
+// One call, read as the Rust reads.
 pub fn parse(parser: Parser, bytes: &[u8]) -> Parsed
     ensures { λ r. ⌜ r ≡ call Rust parser (now (bytes .entry)) ⌝ }
 {

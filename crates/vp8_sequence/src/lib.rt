@@ -90,7 +90,7 @@ pub fn parse_frames_in(parser: Parser, bytes: &[u8], lengths: &[u32], modes: &[u
     }
 }
 
-// The same as the Rust reads.
+// The frames stand one after another in `bytes`, with these lengths, and are read as the Rust reads.
 pub fn parse_frames(parser: Parser, bytes: &[u8], lengths: &[u32]) -> Folded
     ensures { λ r. ⌜ Folds parser (asked [] (cuts (now (lengths .entry)) (now (bytes .entry)))) (r .parser) (r .accepted) ⌝ }
 {
