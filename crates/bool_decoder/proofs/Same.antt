@@ -11,7 +11,7 @@ use lib.Pow.{pow-pos, pow-mono}
 use Rattle.rfc6386.specs.Decoder.{State, Out, bits, position}
 use Rattle.rfc6386.specs.Reads.{Rd}
 use Rattle.bool_decoder.specs.Window.{rest, stateOf, limitOf, Over}
-use Rattle.bool_decoder.specs.Model.{Ran, Lit, Sgn, Fresh, Seen}
+use Rattle.bool_decoder.specs.Model.{Ran, pastOf, Passed, Lit, Sgn, Fresh, Seen}
 use Rattle.bool_decoder.specs.Answer.{Allows, Refuses, BoolMeets, UintMeets, SintMeets}
 use Rattle.bool_decoder.specs.declared.BoolDecoder.{BoolDecoder}
 use Rattle.bool_decoder.specs.declared.BoolDecoderState.{BoolDecoderState}
@@ -20,6 +20,9 @@ use Rattle.bool_decoder.specs.declared.Uint.{Uint}
 use Rattle.bool_decoder.specs.declared.Sint.{Sint}
 use Rattle.bool_decoder.specs.declared.reads.Byte.{Byte}
 use Rattle.bool_decoder.specs.declared.reads.Int.{Int}
+use Rattle.bool_decoder.specs.declared.BoolRead.{BoolRead}
+use Rattle.bool_decoder.specs.declared.UintRead.{UintRead}
+use Rattle.bool_decoder.specs.declared.SintRead.{SintRead}
 use Rattle.bool_decoder.specs.declared.BoolAnswer.{BoolAnswer}
 use Rattle.bool_decoder.specs.declared.BoolAnswer.the-variants as B
 use Rattle.bool_decoder.specs.declared.UintAnswer.{UintAnswer}
@@ -84,6 +87,14 @@ pub same-read : {A S : Type 0} (both : A → BoolDecoder → S) {m : Rd A} {area
     {e f : BoolDecoder} {j k : ℕ} → Ran m area d a e j → Ran m area d b f k → both a e ≡ both b f
 same-read both p q i = both (same-value p q i) (same-decoder p q i)
 
+-- and for every record that has the bits past the end too, which follow from the decoder
+pub same-passed : {A S : Type 0} (all : A → ℕ → BoolDecoder → S) {m : Rd A} {area : List ℕ} {d : BoolDecoder} {a b : A} {q t : ℕ}
+    {e f : BoolDecoder} {j k : ℕ} → Passed m area d a q e j → Passed m area d b t f k → all a q e ≡ all b t f
+same-passed all {area = area} x y =
+    let e = same-decoder (x .ran) (y .ran) in
+    let past = x .past ∙ ap (pastOf area) e ∙ sym (y .past) in
+    λ i. all (same-value (x .ran) (y .ran) i) (past i) (e i)
+
 module _ {area : List ℕ} {d : BoolDecoder} where
   -- read_bit, read_flag and flag_if
   pub same-bit : {m : Rd Bool} {r q : Bit} → Ran m area d (r .bit) (r .dec) 1 → Ran m area d (q .bit) (q .dec) 1 → r ≡ q
@@ -117,6 +128,10 @@ pub same-position : (area : List ℕ) (d : BoolDecoder) {r q : ℕ}
     → r ≡ position (bits area) (stateOf area d) → q ≡ position (bits area) (stateOf area d) → r ≡ q
 same-position area d p s = p ∙ sym s
 
+-- past
+pub same-past : (area : List ℕ) (d : BoolDecoder) {r q : ℕ} → r ≡ pastOf area d → q ≡ pastOf area d → r ≡ q
+same-past area d p s = p ∙ sym s
+
 -- snapshot
 pub same-seen : {area : List ℕ} {d : BoolDecoder} {r q : BoolDecoderState} → Seen area d r → Seen area d q → r ≡ q
 same-seen p s = λ i. record {
@@ -126,27 +141,30 @@ same-seen p s = λ i. record {
 }
 
 -- nothing is both refused and read
-torn : {A X : Type 0} {m : Rd A} {area : List ℕ} {d : BoolDecoder} {w k : ℕ} {a : A} {e : BoolDecoder} {n : ℕ}
-    → Allows m area d w k a e → Refuses area d w k n → X
-torn p q = absurd (omega (arith, p .free, q .is, q .some))
+torn : {A X : Type 0} {m : Rd A} {area : List ℕ} {d : BoolDecoder} {w k : ℕ} {a : A} {q : ℕ} {e : BoolDecoder} {n : ℕ}
+    → Allows m area d w k a q e → Refuses area d w k n → X
+torn p r = absurd (omega (arith, p .free, r .is, r .some))
 
 -- read_bool and read_bool_with_prob
 pub same-bool-answer : (area : List ℕ) (d : BoolDecoder) (p : ℕ) (r q : BoolAnswer) → BoolMeets area d p r → BoolMeets area d p q → r ≡ q
-same-bool-answer area d p (B.Read r) (B.Read q) x y = ap B.Read (same-bit (x .ran) (y .ran))
+same-bool-answer area d p (B.Read r) (B.Read q) x y =
+    ap B.Read (same-passed {S = BoolRead} (λ v n e. record { bit = v; past = n; dec = e }) (x .read) (y .read))
 same-bool-answer area d p (B.Read r) (B.Refused n) x y = torn x y
 same-bool-answer area d p (B.Refused n) (B.Read q) x y = torn y x
 same-bool-answer area d p (B.Refused n) (B.Refused k) x y = ap B.Refused (x .is ∙ sym (y .is))
 
 -- read_uint
 pub same-uint-answer : (area : List ℕ) (d : BoolDecoder) (w : ℕ) (r q : UintAnswer) → UintMeets area d w r → UintMeets area d w q → r ≡ q
-same-uint-answer area d w (U.Read r) (U.Read q) x y = ap U.Read (same-uint (x .ran) (y .ran))
+same-uint-answer area d w (U.Read r) (U.Read q) x y =
+    ap U.Read (same-passed {S = UintRead} (λ v n e. record { value = v; past = n; dec = e }) (x .read) (y .read))
 same-uint-answer area d w (U.Read r) (U.Refused n) x y = torn x y
 same-uint-answer area d w (U.Refused n) (U.Read q) x y = torn y x
 same-uint-answer area d w (U.Refused n) (U.Refused k) x y = ap U.Refused (x .is ∙ sym (y .is))
 
 -- read_sint
 pub same-sint-answer : (area : List ℕ) (d : BoolDecoder) (w : ℕ) (r q : SintAnswer) → SintMeets area d w r → SintMeets area d w q → r ≡ q
-same-sint-answer area d w (S.Read r) (S.Read q) x y = ap S.Read (same-sint (x .ran) (y .ran))
+same-sint-answer area d w (S.Read r) (S.Read q) x y =
+    ap S.Read (same-passed {S = SintRead} (λ v n e. record { value = v; past = n; dec = e }) (x .read) (y .read))
 same-sint-answer area d w (S.Read r) (S.Refused n) x y = torn x y
 same-sint-answer area d w (S.Refused n) (S.Read q) x y = torn y x
 same-sint-answer area d w (S.Refused n) (S.Refused k) x y = ap S.Refused (x .is ∙ sym (y .is))

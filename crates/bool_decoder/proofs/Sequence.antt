@@ -1,13 +1,13 @@
--- The promise: whatever is read over one area, in whatever order, past its end too, values, position, snapshot and count are the
--- definition's. A walk is any sequence of reads, each of which met its contract and may depend on what came before. By induction on the
+-- The promise: whatever is read over one area, in whatever order, past its end too, values, position, bits past the end, snapshot and
+-- count are the definition's. A walk is any sequence of reads, each of which met its contract and may depend on what came before. By induction on the
 -- walk.
 use mathlib.Core.Path.{_≡_, sym, ap, _∙_}
 use mathlib.Core.List.{List}
 use Prim.Native.Nat.{ℕ, _+_}
-use Rattle.rfc6386.specs.Decoder.{State, Out, bits, start, whole, countOf, position}
+use Rattle.rfc6386.specs.Decoder.{State, Out, bits, start, whole, countOf, position, past}
 use Rattle.rfc6386.specs.Reads.{Rd, ret, _>>=_, run}
 use Rattle.bool_decoder.specs.Window.{stateOf, Over}
-use Rattle.bool_decoder.specs.Model.{out, Ran, Fresh, Seen}
+use Rattle.bool_decoder.specs.Model.{out, Ran, pastOf, Fresh, Seen}
 use Rattle.bool_decoder.specs.declared.BoolDecoder.{BoolDecoder}
 use Rattle.bool_decoder.specs.declared.BoolDecoderState.{BoolDecoderState}
 use Rattle.bool_decoder.proofs.Chain.{then, done}
@@ -23,20 +23,22 @@ pub reads-agree : {A : Type 0} {m : Rd A} {area : List ℕ} {d : BoolDecoder} {a
 reads-agree o stop = done o
 reads-agree o (read f q w) = then f q (reads-agree (q .over) w)
 
--- what the outside sees after the tree m: its value a, the decoder's bools, a position and a snapshot
-pub record Agrees {A : Type 0} (m : Rd A) (area : List ℕ) (a : A) (d : BoolDecoder) (at : ℕ) (seen : BoolDecoderState) : Type 0 where
+-- what the outside sees after the tree m: its value a, the decoder's bools, a position, q bits past the end and a snapshot
+pub record Agrees {A : Type 0} (m : Rd A) (area : List ℕ) (a : A) (d : BoolDecoder) (at q : ℕ) (seen : BoolDecoderState) : Type 0 where
   pub value : a ≡ run m (bits area) (start area) .got
   pub bools : d .bools ≡ run m (bits area) (start area) .then .n
   pub place : at ≡ position (bits area) (run m (bits area) (start area) .then)
+  pub past-end : q ≡ past (bits area) (run m (bits area) (start area) .then)
   pub range : seen .range ≡ run m (bits area) (start area) .then .r
   pub whole-v : seen .value ≡ whole (bits area) (run m (bits area) (start area) .then)
   pub count : seen .count ≡ countOf (run m (bits area) (start area) .then)
 
--- `at` and `seen` are what pos and snapshot answer of the last decoder
+-- `at`, q and `seen` are what pos, past and snapshot answer of the last decoder
 pub promise : {A : Type 0} {m : Rd A} {area : List ℕ} {d : BoolDecoder} {a : A} {d' : BoolDecoder} {n : ℕ}
     → Fresh area d → Walk area m d a d' n
-    → {at : ℕ} → at ≡ position (bits area) (stateOf area d') → {seen : BoolDecoderState} → Seen area d' seen → Agrees m area a d' at seen
-promise {A} {m} {area} {d} {a} {d'} f w at see =
+    → {at : ℕ} → at ≡ position (bits area) (stateOf area d') → {q : ℕ} → q ≡ pastOf area d'
+    → {seen : BoolDecoderState} → Seen area d' seen → Agrees m area a d' at q seen
+promise {A} {m} {area} {d} {a} {d'} f w at beyond see =
     let p = reads-agree (f .over) w in
     let e : out a (stateOf area d') ≡ run m (bits area) (start area) =
     sym (p .is) ∙ ap (run m (bits area)) (f .state) in
@@ -45,6 +47,7 @@ promise {A} {m} {area} {d} {a} {d'} f w at see =
       value = ap (λ (o : Out A). o .got) e;
       bools = ap (λ (s : State). s .n) s;
       place = at ∙ ap (position (bits area)) s;
+      past-end = beyond ∙ ap (past (bits area)) s;
       range = see .range ∙ ap (λ (s : State). s .r) s;
       whole-v = see .value ∙ ap (whole (bits area)) s;
       count = see .count ∙ ap countOf s;

@@ -5,7 +5,7 @@ use mathlib.Core.Path.{_≡_}
 use mathlib.Core.List.{List}
 use lib.IntN.{ℤ}
 use lib.Signed.{mag}
-use Rattle.rfc6386.specs.Decoder.{bits, State, start, Out, whole, countOf}
+use Rattle.rfc6386.specs.Decoder.{bits, State, start, Out, whole, countOf, past}
 use Rattle.rfc6386.specs.Reads.{Rd, run, lit, sint}
 use Rattle.bool_decoder.specs.Window.{stateOf, Over}
 use Rattle.bool_decoder.specs.declared.BoolDecoder.{BoolDecoder}
@@ -24,6 +24,15 @@ pub record Ran {A : Type 0} (m : Rd A) (area : List ℕ) (d : BoolDecoder) (a : 
   pub is : run m (bits area) (stateOf area d) ≡ out a (stateOf area d')
   pub over : Over area d'
   pub most : d' .bools ≤ d .bools + k
+
+-- how many bits d has gone past the area's end
+abbrev pub pastOf : List ℕ → BoolDecoder → ℕ
+pastOf area d = past (bits area) (stateOf area d)
+
+-- the same, where the answer carries those bits too: a sub-header's
+pub record Passed {A : Type 0} (m : Rd A) (area : List ℕ) (d : BoolDecoder) (a : A) (q : ℕ) (d' : BoolDecoder) (k : ℕ) : Type 0 where
+  pub ran : Ran m area d a d' k
+  pub past : q ≡ pastOf area d'
 
 -- a literal of w bools is below 2 ^ w
 pub record Lit (area : List ℕ) (w : ℕ) (d : BoolDecoder) (v : ℕ) (d' : BoolDecoder) : Type 0 where

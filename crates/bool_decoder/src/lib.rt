@@ -1,11 +1,12 @@
-// The boolean decoder of bool_decoder.rs: bools, literals, signed literals, position and snapshot.
+// The boolean decoder of bool_decoder.rs: bools, literals, signed literals, position and snapshot; and beyond it the bits past the end.
 // It goes by value, and the area is passed along with it.
-// Inner reads ask for a decoder over the area with room for the bools; the public ones test the limits first, and refuse.
+// Inner reads ask for a decoder over the area with room for the bools; the public ones test the limits first, and refuse. Their answers
+// carry the bits past the end too.
 use bitstream_utils::byte_at;
 ghost use mathlib.Core.Path.{_≡_};
 ghost use mathlib.Core.Bool.{_&&_};
 ghost use Prim.Native.Nat.{_+_, _-_, _*_, _^_, _<_, _≤_};
-ghost use Rattle.rfc6386.specs.Decoder.{bits, split, pick, refusalOf, position};
+ghost use Rattle.rfc6386.specs.Decoder.{bits, split, pick, refusalOf, position, past};
 ghost use Rattle.rfc6386.specs.Reads.{bool, flag, bit, signed};
 ghost use Rattle.bool_decoder.specs.Window.{Held, vOf, vAfter, stateOf, limitOf, Over};
 ghost use Rattle.bool_decoder.specs.Model.{Good, Ran, Lit, Sgn, Fresh, Seen};
@@ -57,21 +58,51 @@ pub struct BoolDecoderState {
     pub count: u8,
 }
 
+// A bool of the bare decoder.
+pub struct BoolRead {
+    // What was read.
+    pub bit: bool,
+    // How many bits the decoder has gone past the area's end.
+    pub past: u32,
+    // The decoder after it.
+    pub dec: BoolDecoder,
+}
+
+// A literal of the bare decoder.
+pub struct UintRead {
+    // What was read.
+    pub value: u32,
+    // How many bits the decoder has gone past the area's end.
+    pub past: u32,
+    // The decoder after it.
+    pub dec: BoolDecoder,
+}
+
+// A signed literal of the bare decoder.
+pub struct SintRead {
+    // What was read.
+    pub value: i32,
+    // How many bits the decoder has gone past the area's end.
+    pub past: u32,
+    // The decoder after it.
+    pub dec: BoolDecoder,
+}
+
 // What the bare decoder answers of a bool: it, or the number of its refusal.
 pub enum BoolAnswer {
-    Read(Bit),
+    Read(BoolRead),
     Refused(u32),
 }
 
 // The same of a literal.
 pub enum UintAnswer {
-    Read(Uint),
+    Read(UintRead),
     Refused(u32),
 }
 
 // The same of a signed literal.
 pub enum SintAnswer {
-    Read(Sint),
+    Read(SintRead),
     Refused(u32),
 }
 
@@ -342,6 +373,14 @@ impl BoolDecoder {
         }
     }
 
+    // In bits: how far the doublings have gone past the area's end, where the position has stopped; 0 before it.
+    pub fn past(self, area: &[u8]) -> u32
+        ensures { λ r. ⌜ r ≡ past (bits (now (area .entry))) (stateOf (now (area .entry)) self) ⌝ }
+    {
+        let at = self.pos(area);
+        self.doublings - at
+    }
+
     // The count follows the doublings, even where the position has stopped.
     pub fn snapshot(self, area: &[u8]) -> BoolDecoderState
         requires { ⌜ Over (now area) self ⌝ }
@@ -364,7 +403,14 @@ impl BoolDecoder {
         if number != 0 {
             return BoolAnswer::Refused(number);
         }
-        BoolAnswer::Read(self.read_bit(area, probability))
+        let read = self.read_bit(area, probability);
+        let dec = read.dec;
+        let past = dec.past(area);
+        BoolAnswer::Read(BoolRead {
+            bit: read.bit,
+            past,
+            dec,
+        })
     }
 
     // A bool at even chances.
@@ -376,7 +422,14 @@ impl BoolDecoder {
         if number != 0 {
             return BoolAnswer::Refused(number);
         }
-        BoolAnswer::Read(self.read_flag(area))
+        let read = self.read_flag(area);
+        let dec = read.dec;
+        let past = dec.past(area);
+        BoolAnswer::Read(BoolRead {
+            bit: read.bit,
+            past,
+            dec,
+        })
     }
 
     // A literal of nbits bools.
@@ -388,7 +441,14 @@ impl BoolDecoder {
         if number != 0 {
             return UintAnswer::Refused(number);
         }
-        UintAnswer::Read(self.read_literal(area, nbits))
+        let read = self.read_literal(area, nbits);
+        let dec = read.dec;
+        let past = dec.past(area);
+        UintAnswer::Read(UintRead {
+            value: read.value,
+            past,
+            dec,
+        })
     }
 
     // A signed literal: nbits bools of magnitude, then a sign.
@@ -400,6 +460,13 @@ impl BoolDecoder {
         if number != 0 {
             return SintAnswer::Refused(number);
         }
-        SintAnswer::Read(self.read_signed(area, nbits))
+        let read = self.read_signed(area, nbits);
+        let dec = read.dec;
+        let past = dec.past(area);
+        SintAnswer::Read(SintRead {
+            value: read.value,
+            past,
+            dec,
+        })
     }
 }

@@ -8,3 +8,4 @@ pub mod Peek
 pub mod Holds
 pub mod Fills
 pub mod Covers
+pub mod Reach

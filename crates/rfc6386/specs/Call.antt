@@ -148,6 +148,7 @@ headerOf k c s ss q = record {
   «bools» = s .bools;
   «mb_cols» = blocks (pixels (k .width));
   «mb_rows» = blocks (pixels (k .height));
+  «past» = s .past;
 }
 
 -- what a valid key-frame chunk resets to

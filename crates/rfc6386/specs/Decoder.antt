@@ -55,7 +55,8 @@ readBool l p s =
     let b = leb (sp * 2 ^ l) (s .v) in
     record { got = b; then = normal 7 l (chosen l b sp s) }
 
--- what the outside sees beside R: the whole part of V, the count, which follows c, and the position, which stops at the area's end
+-- what the outside sees beside R: the whole part of V, the count, which follows c, the position, which stops at the area's end, and how
+-- many bits the doublings have gone past that end, where zeros were made up. Nothing that is read depends on the last two
 unfoldable pub whole : ℕ → State → ℕ
 whole l s = s .v / 2 ^ l
 
@@ -64,6 +65,9 @@ countOf s = (8 - s .c % 8) % 8
 
 unfoldable pub position : ℕ → State → ℕ
 position l s = min (s .c) l
+
+unfoldable pub past : ℕ → State → ℕ
+past l s = s .c - l
 
 abbrev pub pick : {A : Type 0} → Bool → A → A → A
 pick true a b = a

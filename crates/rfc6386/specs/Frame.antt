@@ -10,7 +10,7 @@ use Rattle.vp8_records.specs.declared.Mode.the-variants.{Rust, Standard}
 use Rattle.vp8_records.specs.declared.Outcome.{Outcome}
 use Rattle.vp8_records.specs.declared.Outcome.the-variants.{ChunkTooShort, InvalidStartCode, FrameTooLong}
 use Rattle.rfc6386.specs.Bytes.{le2, le3}
-use Rattle.rfc6386.specs.Decoder.{State, Out, start, bits, whole, countOf, position}
+use Rattle.rfc6386.specs.Decoder.{State, Out, start, bits, whole, countOf, position, past}
 use Rattle.rfc6386.specs.Reads.{run}
 use Rattle.rfc6386.specs.Coded.{Coded, header}
 
@@ -84,10 +84,12 @@ pub record Snapshot : Type 0 where
   pub value : ℕ
   pub count : ℕ
   pub position : ℕ
+  pub past : ℕ
   pub bools : ℕ
 
 unfoldable pub snapshot : ℕ → State → Snapshot
-snapshot l s = record { range = s .r; value = whole l s; count = countOf s; position = position l s; bools = s .n }
+snapshot l s =
+    record { range = s .r; value = whole l s; count = countOf s; position = position l s; past = past l s; bools = s .n }
 
 -- the k sizes that are coded, 3 bytes each, from place i of the area on (section 9.5)
 unfoldable pub codedSizes : ℕ → List ℕ → ℕ → List ℕ

@@ -4,8 +4,8 @@
 --      boolean decoder runs (Decoder), the coded fields, the decoder's snapshot and the partition sizes.
 --   2. What it says and the kept numbers make the answer: the outcome, the header and the new kept numbers (Call).
 -- Peek is what the first ten bytes tell, by the same reading of the chunk. Fills says what it means that the parts of a frame fill it,
--- Covers that macroblocks cover a picture, and Holds what holds of every header whatever the bytes. The tables are vp8_probs' Tables; the
--- records with their starting values are vp8_records'.
+-- Covers that macroblocks cover a picture, Reach what position and bits past the end tell of how far the decoder has gone, and Holds what
+-- holds of every header whatever the bytes. The tables are vp8_probs' Tables; the records with their starting values are vp8_records'.
 pub mod Bytes
 pub mod Decoder
 pub mod Reads
@@ -16,4 +16,5 @@ pub mod Call
 pub mod Peek
 pub mod Fills
 pub mod Covers
+pub mod Reach
 pub mod Holds

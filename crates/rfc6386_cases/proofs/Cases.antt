@@ -14,7 +14,7 @@ use Rattle.vp8_records.specs.declared.Mode.{Mode}
 use Rattle.vp8_records.specs.declared.Mode.the-variants.{Rust, Standard}
 use Rattle.vp8_records.specs.Layout.{rows, joined}
 use Rattle.vp8_records.specs.Start.{freshCoeffs, freshMv, fresh}
-use Rattle.rfc6386.specs.Decoder.{number, start, double, normal, chosen, readBool, whole, countOf, position}
+use Rattle.rfc6386.specs.Decoder.{number, start, double, normal, chosen, readBool, whole, countOf, position, past}
 use Rattle.rfc6386.specs.Frame.{keyChunk, chunk, body, decode}
 use Rattle.rfc6386.specs.Call.{cleared, call}
 use Rattle.rfc6386_history.specs.Kept.{numbers, kept}
@@ -22,7 +22,7 @@ use Rattle.rfc6386_cases.specs.Cases.{marked, boolsOf, stateAfter, done,
 
 pub cases-hold : (md : Mode) → map (done md) cases ≡ cases
 unfolding cases done boolsOf stateAfter marked
-    number start double normal chosen readBool whole countOf position keyChunk chunk body decode cleared call
+    number start double normal chosen readBool whole countOf position past keyChunk chunk body decode cleared call
 cases-hold Rust = refl
 cases-hold Standard = refl
 

@@ -12,7 +12,7 @@ use Rattle.vp8_records.specs.declared.Parsed.{Parsed}
 use Rattle.vp8_records.specs.Layout.{laidCoeffs, laidMv}
 use Rattle.vp8_records.specs.Outcome.{numberOf, carriedBy}
 use Rattle.vp8_records.specs.Start.{fresh, blank}
-use Rattle.rfc6386.specs.Decoder.{State, start, bits, readBool, whole, countOf, position}
+use Rattle.rfc6386.specs.Decoder.{State, start, bits, readBool, whole, countOf, position, past}
 use Rattle.rfc6386.specs.Call.{call}
 
 -- a parser that differs from the fresh one in every kept number, so that a reset shows
@@ -46,7 +46,7 @@ pub record Seen : Type 0 where
   pub left : Parser
 
 -- a frame, and what calls on the fresh parser and on the marked one show
--- an area and the probabilities of reads, the bools read, and R, whole V, count and position after them
+-- an area and the probabilities of reads, the bools read, and R, whole V, count, position and bits past the end after them
 pub data Case : Type 0 where
   frame : List ℕ → Seen → Seen → Case
   reads : List ℕ → List ℕ → List Bool → List ℕ → Case
@@ -63,7 +63,7 @@ stateAfter l [] s = s
 stateAfter l (p ∷ ps) s = stateAfter l ps (readBool l p s .then)
 
 abbrev pub shown : ℕ → State → List ℕ
-shown l s = s .r ∷ whole l s ∷ countOf s ∷ position l s ∷ []
+shown l s = s .r ∷ whole l s ∷ countOf s ∷ position l s ∷ past l s ∷ []
 
 -- the case with its results as the definition gives them in a mode
 unfoldable pub done : Mode → Case → Case
@@ -100,15 +100,15 @@ cases =
     -- 5
     ∷ resets (key176x144 0x10) 4 []
     -- 13
-    ∷ reads (0x80 ∷ []) (128 ∷ []) (true ∷ []) (254 ∷ 0 ∷ 7 ∷ 1 ∷ [])
+    ∷ reads (0x80 ∷ []) (128 ∷ []) (true ∷ []) (254 ∷ 0 ∷ 7 ∷ 1 ∷ 0 ∷ [])
     -- 14
-    ∷ reads (replicate 8 0xFF) (replicate 3 128) (true ∷ true ∷ false ∷ []) (254 ∷ 3 ∷ 5 ∷ 3 ∷ [])
+    ∷ reads (replicate 8 0xFF) (replicate 3 128) (true ∷ true ∷ false ∷ []) (254 ∷ 3 ∷ 5 ∷ 3 ∷ 0 ∷ [])
     -- 15
-    ∷ reads (0x7F ∷ []) (128 ∷ []) (false ∷ []) (128 ∷ 127 ∷ 0 ∷ 0 ∷ [])
+    ∷ reads (0x7F ∷ []) (128 ∷ []) (false ∷ []) (128 ∷ 127 ∷ 0 ∷ 0 ∷ 0 ∷ [])
     -- 16
-    ∷ reads (0x00 ∷ []) (0 ∷ []) (false ∷ []) (128 ∷ 0 ∷ 1 ∷ 7 ∷ [])
+    ∷ reads (0x00 ∷ []) (0 ∷ []) (false ∷ []) (128 ∷ 0 ∷ 1 ∷ 7 ∷ 0 ∷ [])
     -- 17
-    ∷ reads (0x00 ∷ []) (255 ∷ []) (false ∷ []) (254 ∷ 0 ∷ 0 ∷ 0 ∷ [])
+    ∷ reads (0x00 ∷ []) (255 ∷ []) (false ∷ []) (254 ∷ 0 ∷ 0 ∷ 0 ∷ 0 ∷ [])
     -- 18
-    ∷ reads (0x00 ∷ []) (replicate 10 128) (replicate 10 false) (128 ∷ 0 ∷ 7 ∷ 8 ∷ [])
+    ∷ reads (0x00 ∷ []) (replicate 10 128) (replicate 10 false) (128 ∷ 0 ∷ 7 ∷ 8 ∷ 1 ∷ [])
     ∷ []

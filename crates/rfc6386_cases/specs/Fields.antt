@@ -113,6 +113,8 @@ keyHeader = record {
   «mb_cols» = 78;
   -- macroblocks down, likewise
   «mb_rows» = 36;
+  -- bits past the end of the bytes that are read
+  «past» = 0;
 }
 
 abbrev keyLeft : Parser
@@ -238,6 +240,8 @@ plainHeader = record {
   «mb_cols» = 1;
   -- macroblocks down, likewise
   «mb_rows» = 3;
+  -- bits past the end of the bytes that are read
+  «past» = 0;
 }
 
 abbrev plainLeft : Parser
@@ -361,6 +365,8 @@ interHeader = record {
   «mb_cols» = 0;
   -- macroblocks down, likewise
   «mb_rows» = 0;
+  -- bits past the end of the bytes that are read
+  «past» = 0;
 }
 
 abbrev interLeft : Parser
@@ -485,6 +491,8 @@ keptHeader first count doublings bools = record {
   «mb_cols» = 0;
   -- macroblocks down, likewise
   «mb_rows» = 0;
+  -- bits past the end of the bytes that are read
+  «past» = 0;
 }
 
 abbrev keptLeft : List ℕ → Parser

@@ -1,5 +1,5 @@
 -- The worked cases that the two modes read apart (docs/RULES.md numbers them): frames, all in one mode over a fresh parser, and what each
--- mode shows of the last; and where the decoder ends in the standard's mode.
+-- mode shows of the last; and where the decoder ends, which may be past the bytes that it may read.
 use Prim.Native.Nat.{ℕ, _^_}
 use mathlib.Core.Bool.{Bool, true, false}
 use mathlib.Core.List.{List, [], _∷_, _++_, map}
@@ -75,24 +75,37 @@ twice =
     ∷ record { before = []; frame = 0x01 ∷ 0x00 ∷ 0x00 ∷ 0x00 ∷ []; rust = plain (1 ∷ []); standard = refused 4 (same 0) }
     ∷ []
 
--- a frame that is accepted, and the bools, range, count and header_size after its header
+-- a frame that is accepted, and in each mode the bools, range, count, header_size and bits past the end after its header
 pub record Ends : Type 0 where
   pub frame : List ℕ
-  pub state : List ℕ
+  pub rust : List ℕ
+  pub standard : List ℕ
 
-abbrev pub ended : Ends → List ℕ
-ended x =
-    let h = call Standard fresh (x .frame) .header in
-    h .bools ∷ h .«bd_range» ∷ h .«bd_count» ∷ h .«header_size» ∷ []
+abbrev pub ended : Mode → Ends → List ℕ
+ended md x =
+    let h = call md fresh (x .frame) .header in
+    h .bools ∷ h .«bd_range» ∷ h .«bd_count» ∷ h .«header_size» ∷ h .past ∷ []
 
 unfoldable pub ends : List Ends
 ends =
     -- 6
-    record { frame = key176x144 0x30 ++ (0x00 ∷ 0x00 ∷ []); state = 1086 ∷ 194 ∷ 5 ∷ 8 ∷ [] }
+    record {
+      frame = key176x144 0x30 ++ (0x00 ∷ 0x00 ∷ []);
+      rust = 1086 ∷ 194 ∷ 5 ∷ 16 ∷ 27 ∷ [];
+      standard = 1086 ∷ 194 ∷ 5 ∷ 8 ∷ 35 ∷ [];
+    }
     -- 7
-    ∷ record { frame = 0x31 ∷ 0x00 ∷ 0x00 ∷ 0x00 ∷ 0x00 ∷ []; state = 1157 ∷ 178 ∷ 3 ∷ 8 ∷ [] }
+    ∷ record {
+      frame = 0x31 ∷ 0x00 ∷ 0x00 ∷ 0x00 ∷ 0x00 ∷ [];
+      rust = 1157 ∷ 178 ∷ 3 ∷ 16 ∷ 61 ∷ [];
+      standard = 1157 ∷ 178 ∷ 3 ∷ 8 ∷ 69 ∷ [];
+    }
     -- 8
-    ∷ record { frame = nine ++ (0x00 ∷ 0x00 ∷ []); state = 1157 ∷ 178 ∷ 3 ∷ 16 ∷ [] }
+    ∷ record {
+      frame = nine ++ (0x00 ∷ 0x00 ∷ []);
+      rust = 1157 ∷ 178 ∷ 3 ∷ 48 ∷ 29 ∷ [];
+      standard = 1157 ∷ 178 ∷ 3 ∷ 16 ∷ 61 ∷ [];
+    }
     -- 11
-    ∷ record { frame = eleven; state = 1091 ∷ 194 ∷ 0 ∷ 24 ∷ [] }
+    ∷ record { frame = eleven; rust = 1088 ∷ 194 ∷ 3 ∷ 32 ∷ 13 ∷ []; standard = 1091 ∷ 194 ∷ 0 ∷ 24 ∷ 24 ∷ [] }
     ∷ []

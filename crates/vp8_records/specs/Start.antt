@@ -117,4 +117,5 @@ blank = record {
   «bools» = 0;
   «mb_cols» = 0;
   «mb_rows» = 0;
+  «past» = 0;
 }

@@ -182,6 +182,8 @@ pub struct Header {
     pub mb_cols: u16,
     // Beyond the Rust: the macroblocks down, the last one filled up.
     pub mb_rows: u16,
+    // Beyond the Rust: the bits that the decoder has gone past the bytes that it may read, where zeros stood for them.
+    pub past: u32,
 }
 
 // What is kept from frame to frame: 1,126 numbers.
@@ -609,6 +611,7 @@ impl Header {
             bools: 0,
             mb_cols: 0,
             mb_rows: 0,
+            past: 0,
         }
     }
 

@@ -19,9 +19,16 @@ read-literal-requires c κs =
     let n = s .args .nbits in
     allowed n n (s .pre) (sym (rw add-zero at (c .before .refusal .ensures)) ∙ c .if1 .left)
 
+past-requires : tie.Need-past-requires
+past-requires c κs = search needs
+
 returns-2 : tie.Need-returns-2
 returns-2 c =
-    record { free = sym (rw add-zero at (c .before .before .refusal .ensures)) ∙ c .before .if1 .left; ran = c .read-literal .ensures .ran }
+    let at-read = c .before .before in
+    record {
+      free = sym (rw add-zero at (at-read .before .before .refusal .ensures)) ∙ at-read .before .if1 .left;
+      read = record { ran = at-read .read-literal .ensures .ran; past = c .past .ensures };
+    }
 
 pub read-uint-spec : {M : Type 1} → statement M
-read-uint-spec = tie.close (tie.spec refusal-requires returns read-literal-requires returns-2)
+read-uint-spec = tie.close (tie.spec refusal-requires returns read-literal-requires past-requires returns-2)
