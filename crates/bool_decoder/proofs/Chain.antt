@@ -1,5 +1,5 @@
 -- How reads are put together: a law for a step, one for the end, one for a wider bound, one for the room after a read, two for a flag.
--- Each is one step of `run`.
+-- Each is one step of `run`. The last puts the bits past the end beside what was read.
 use Prim.Native.Nat.{ℕ, _+_, _≤_}
 use native.Mathlib.Omega.{arith}
 use mathlib.Core.Path.{_≡_, refl, ap, _∙_}
@@ -9,7 +9,7 @@ use Rattle.rfc6386.specs.Decoder.{Out, bits}
 use Rattle.rfc6386.specs.Reads.{Rd, ret, _>>=_, run, when}
 use Rattle.rfc6386.proofs.Trees.{run-bind}
 use Rattle.bool_decoder.specs.Window.{stateOf, Over}
-use Rattle.bool_decoder.specs.Model.{Good, Ran}
+use Rattle.bool_decoder.specs.Model.{Good, Ran, pastOf, Passed}
 use Rattle.bool_decoder.specs.declared.BoolDecoder.{BoolDecoder}
 
 module _ {A B : Type 0} {area : List ℕ} where
@@ -49,3 +49,8 @@ module _ {A : Type 0} {area : List ℕ} where
 
 pub fewer : {area : List ℕ} {d : BoolDecoder} {j k : ℕ} → j ≤ k → Good area d k → Good area d j
 fewer h g = record { over = g .over; room = omega (arith, g .room) }
+
+-- an answer that carries the bits past the end too
+pub passed : {A : Type 0} {m : Rd A} {area : List ℕ} {d : BoolDecoder} {a : A} {q : ℕ} {d' : BoolDecoder} {k : ℕ}
+    → q ≡ pastOf area d' → Ran m area d a d' k → Passed m area d a q d' k
+passed e r = record { ran = r; past = e }

@@ -14,7 +14,7 @@ ghost use Rattle.vp8_records.specs.Shape.{SizedContexts};
 ghost use Rattle.rfc6386.specs.Reads.{make};
 ghost use Rattle.rfc6386.specs.Coded.{coefficients};
 ghost use Rattle.rfc6386.specs.Call.{coeffsOver};
-ghost use Rattle.bool_decoder.specs.Model.{Good, Ran};
+ghost use Rattle.bool_decoder.specs.Model.{Good, Passed, Ran};
 ghost use Rattle.vp8_fields.specs.Rows.{coded, rowOver};
 
 // The probabilities of a block type, and the decoder after them.
@@ -26,6 +26,8 @@ struct BandsRead {
 // All of them, and the decoder after them.
 pub struct CoeffRead {
     pub coeff_prob: CoeffProbs,
+    // How many bits the decoder has gone past the area's end.
+    pub past: u32,
     pub dec: BoolDecoder,
 }
 
@@ -73,7 +75,8 @@ fn bands(area: &[u8], table: &[u8; 1056], dec: BoolDecoder, at: usize, row: Band
 // token_prob_update() of section 19.2. The table is made once, and lent down.
 pub fn parse_token_prob_update(area: &[u8], dec: BoolDecoder, coeff_probs: CoeffProbs) -> CoeffRead
     requires { ⌜ Good (now area) dec 9504 ⌝ }
-    ensures { λ r. ⌜ Ran (make (λ us. coeffsOver us «coeff_probs») coefficients) (now (area .entry)) dec (r .«coeff_prob») (r .dec) 9504 ⌝ }
+    ensures { λ r. ⌜ Passed (make (λ us. coeffsOver us «coeff_probs») coefficients)
+        (now (area .entry)) dec (r .«coeff_prob») (r .past) (r .dec) 9504 ⌝ }
 {
     let mut out = coeff_probs;
     let mut next = dec;
@@ -86,8 +89,10 @@ pub fn parse_token_prob_update(area: &[u8], dec: BoolDecoder, coeff_probs: Coeff
         out.v[i] = made;
         i += 1;
     }
+    let past = next.past(area);
     CoeffRead {
         coeff_prob: out,
+        past,
         dec: next,
     }
 }

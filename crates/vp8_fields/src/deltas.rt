@@ -8,12 +8,14 @@ ghost use mathlib.Core.List.{[]};
 ghost use Rattle.rfc6386.specs.Reads.{when, sint, make, times, maybe};
 ghost use Rattle.rfc6386.specs.Coded.{deltas};
 ghost use Rattle.rfc6386.specs.Call.{adjusted};
-ghost use Rattle.bool_decoder.specs.Model.{Good, Ran};
+ghost use Rattle.bool_decoder.specs.Model.{Good, Passed, Ran};
 ghost use Rattle.vp8_fields.specs.Rows.{onto};
 
 // The record after the sub-header, and the decoder after it.
 pub struct AdjustmentsRead {
     pub mb_lf_adjust: MbLfAdjustments,
+    // How many bits the decoder has gone past the area's end.
+    pub past: u32,
     pub dec: BoolDecoder,
 }
 
@@ -36,7 +38,7 @@ pub fn parse_mb_lf_adjustments(
     adj: MbLfAdjustments,
 ) -> AdjustmentsRead
     requires { ⌜ Good (now area) dec 66 ⌝ }
-    ensures { λ r. ⌜ Ran (make (λ c. adjusted c adj) deltas) (now (area .entry)) dec (r .«mb_lf_adjust») (r .dec) 66 ⌝ }
+    ensures { λ r. ⌜ Passed (make (λ c. adjusted c adj) deltas) (now (area .entry)) dec (r .«mb_lf_adjust») (r .past) (r .dec) 66 ⌝ }
 {
     let enable = dec.read_flag(area);
     let update = flag_if(area, enable.dec, enable.bit);
@@ -53,8 +55,10 @@ pub fn parse_mb_lf_adjustments(
         mb_mode_delta,
     };
     let after = modes.dec;
+    let past = after.past(area);
     AdjustmentsRead {
         mb_lf_adjust,
+        past,
         dec: after,
     }
 }

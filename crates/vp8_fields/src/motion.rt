@@ -12,7 +12,7 @@ ghost use Rattle.rfc6386.specs.Reads.{make};
 ghost use Rattle.rfc6386.specs.Runs.{or};
 ghost use Rattle.rfc6386.specs.Coded.{mvOf, motion};
 ghost use Rattle.rfc6386.specs.Call.{mvOver};
-ghost use Rattle.bool_decoder.specs.Model.{Good, Ran};
+ghost use Rattle.bool_decoder.specs.Model.{Good, Passed, Ran};
 ghost use Rattle.vp8_fields.specs.Rows.{codedMv, rowOver};
 
 // The probabilities of one component, and the decoder after them.
@@ -24,6 +24,8 @@ struct MvContextRead {
 // Those of both, and the decoder after them.
 pub struct MvRead {
     pub mv_prob: MvProbs,
+    // How many bits the decoder has gone past the area's end.
+    pub past: u32,
     pub dec: BoolDecoder,
 }
 
@@ -87,7 +89,7 @@ fn mv_context(
 // mv_prob_update() of section 19.2.
 pub fn parse_mv_prob_update(area: &[u8], dec: BoolDecoder, mv_probs: MvProbs) -> MvRead
     requires { ⌜ Good (now area) dec 304 ⌝ }
-    ensures { λ r. ⌜ Ran (make (λ us. mvOver us «mv_probs») motion) (now (area .entry)) dec (r .«mv_prob») (r .dec) 304 ⌝ }
+    ensures { λ r. ⌜ Passed (make (λ us. mvOver us «mv_probs») motion) (now (area .entry)) dec (r .«mv_prob») (r .past) (r .dec) 304 ⌝ }
 {
     let mut out = mv_probs;
     let mut next = dec;
@@ -100,8 +102,10 @@ pub fn parse_mv_prob_update(area: &[u8], dec: BoolDecoder, mv_probs: MvProbs) ->
         out.v[i] = made;
         i += 1;
     }
+    let past = next.past(area);
     MvRead {
         mv_prob: out,
+        past,
         dec: next,
     }
 }

@@ -11,11 +11,19 @@ ghost use mathlib.Core.List.{[]};
 ghost use Rattle.rfc6386.specs.Reads.{when, lit, make};
 ghost use Rattle.rfc6386.specs.Coded.{anew, features, mapped, segments};
 ghost use Rattle.rfc6386.specs.Call.{segmented};
-ghost use Rattle.bool_decoder.specs.Model.{Good, Ran};
+ghost use Rattle.bool_decoder.specs.Model.{Good, Passed, Ran};
 ghost use Rattle.vp8_fields.specs.Rows.{featured, featuresIf, onto};
 
 // The record after the sub-header, and the decoder after it.
 pub struct SegmentationRead {
+    pub segmentation: Segmentation,
+    // How many bits the decoder has gone past the area's end.
+    pub past: u32,
+    pub dec: BoolDecoder,
+}
+
+// The record with its feature data, and the decoder after them.
+struct FeaturesRead {
     pub segmentation: Segmentation,
     pub dec: BoolDecoder,
 }
@@ -33,7 +41,7 @@ fn segment_probs_if(area: &[u8], dec: BoolDecoder, on: bool, old: [u8; 3]) -> Th
 }
 
 // The feature data, written over those of a record.
-fn feature_data(area: &[u8], dec: BoolDecoder, seg: Segmentation) -> SegmentationRead
+fn feature_data(area: &[u8], dec: BoolDecoder, seg: Segmentation) -> FeaturesRead
     requires { ⌜ Good (now area) dec 69 ⌝ }
     ensures { λ r. ⌜ Ran (make (λ f. featured f seg) features) (now (area .entry)) dec (r .segmentation) (r .dec) 69 ⌝ }
 {
@@ -47,21 +55,21 @@ fn feature_data(area: &[u8], dec: BoolDecoder, seg: Segmentation) -> Segmentatio
     segmentation.quantizer_update_value = quantizer_update_value;
     segmentation.lf_update_value = lf_update_value;
     let after = levels.dec;
-    SegmentationRead {
+    FeaturesRead {
         segmentation,
         dec: after,
     }
 }
 
 // The same where `on` is set.
-fn feature_data_if(area: &[u8], dec: BoolDecoder, on: bool, seg: Segmentation) -> SegmentationRead
+fn feature_data_if(area: &[u8], dec: BoolDecoder, on: bool, seg: Segmentation) -> FeaturesRead
     requires { ⌜ Good (now area) dec 69 ⌝ }
     ensures { λ r. ⌜ Ran (make (λ f. featured f seg) (featuresIf on)) (now (area .entry)) dec (r .segmentation) (r .dec) 69 ⌝ }
 {
     if on {
         feature_data(area, dec, seg)
     } else {
-        SegmentationRead {
+        FeaturesRead {
             segmentation: seg,
             dec,
         }
@@ -86,7 +94,7 @@ pub fn update_segmentation(
     mode: Mode,
 ) -> SegmentationRead
     requires { ⌜ Good (now area) dec 99 ⌝ }
-    ensures { λ r. ⌜ Ran (make (λ c. segmented c seg) (segments mode)) (now (area .entry)) dec (r .segmentation) (r .dec) 99 ⌝ }
+    ensures { λ r. ⌜ Passed (make (λ c. segmented c seg) (segments mode)) (now (area .entry)) dec (r .segmentation) (r .past) (r .dec) 99 ⌝ }
 {
     let enabled = dec.read_flag(area);
     let map = flag_if(area, enabled.dec, enabled.bit);
@@ -102,8 +110,10 @@ pub fn update_segmentation(
     segmentation.update_segment_feature_data = feature.bit;
     segmentation.segment_prob = segment_prob;
     let after = probs.dec;
+    let past = after.past(area);
     SegmentationRead {
         segmentation,
+        past,
         dec: after,
     }
 }

@@ -7,6 +7,7 @@ use borrow.Author.Needs.{needs}
 use Rattle.vp8_records.proofs.Arrays.{length-mapped, every-of}
 use Rattle.vp8_records.specs.Shape.{Every, SizedTokens, SizedContexts, SizedBands}
 use Rattle.vp8_records.proofs.Parts as Parts
+use Rattle.bool_decoder.proofs.Chain.{passed}
 use Rattle.bool_decoder.proofs.Each.{Turn, begin, room, turn, end}
 use Rattle.vp8_probs.specs.Tables.{coeffUpdate}
 use Rattle.vp8_records.specs.Layout.{flatBands, laidBands}
@@ -86,14 +87,19 @@ loop-again c =
     let row = rw (← zero-add (at-loop .loop .i * 264)) at (c .before .before .bands .ensures) in
     turn _ _ (at-loop .loop .inv) (omega (arith, n)) row
 
+past-requires : tie.Need-past-requires Inv-loop μ-loop
+past-requires c κs = search needs
+
 returns : tie.Need-returns Inv-loop μ-loop
 unfolding coeffsOver coefficients coeffUpdate
 returns c =
-    let start = c .before .before .before .before in
+    let at-end = c .before in
+    let start = at-end .before .before .before .before in
     let n = lengths start in
     let rows-of = level flatBands laidBands SizedBands 264 coded coeffUpdate (Parts.bands .size) bands-own in
-    same (rows-of (λ v. record { v = v }) 4 0 (start .args .coeff-probs .v) n (each-of start) (omega arith))
-    (makes (λ v. record { v = v }) (end _ (c .before .loop .inv) n (c .loop-test .left)))
+    passed (c .past .ensures)
+    (same (rows-of (λ v. record { v = v }) 4 0 (start .args .coeff-probs .v) n (each-of start) (omega arith))
+    (makes (λ v. record { v = v }) (end _ (at-end .before .loop .inv) n (at-end .loop-test .left))))
 
 pub parse-token-prob-update-spec : {M : Type 1} → statement M
 parse-token-prob-update-spec =
@@ -112,4 +118,5 @@ parse-token-prob-update-spec =
     add-i
     loop-less
     loop-again
+    past-requires
     returns)

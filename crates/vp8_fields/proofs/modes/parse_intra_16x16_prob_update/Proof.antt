@@ -1,7 +1,7 @@
 -- A flag, then the reads that it picks: `make-bind`, and `make-on` or `make-off`.
 use native.Mathlib.Omega.{arith}
 use borrow.Author.Needs.{needs}
-use Rattle.bool_decoder.proofs.Chain.{then, done, upto}
+use Rattle.bool_decoder.proofs.Chain.{then, done, upto, passed}
 use Rattle.rfc6386.specs.Coded.{modes}
 use Rattle.rfc6386.specs.Runs.{over}
 use Rattle.bool_decoder.proofs.Made.{make-bind, make-on, make-off, same}
@@ -14,17 +14,29 @@ read-flag-requires c κs = search needs
 four-bytes-requires : tie.Need-four-bytes-requires
 four-bytes-requires c κs = search needs
 
+past-requires : tie.Need-past-requires
+past-requires c κs = search needs
+
 returns : tie.Need-returns
 unfolding modes
 returns c =
-    let b = c .before .before .before .read-flag .ensures in
-    same (make-bind _ _ _) (then _ b (same (make-on _ _ _ (c .before .if1 .taken)) (c .four-bytes .ensures)))
+    let at-bytes = c .before .before .before in
+    let b = at-bytes .before .before .before .read-flag .ensures in
+    passed (c .past .ensures)
+    (same (make-bind _ _ _) (then _ b (same (make-on _ _ _ (at-bytes .before .if1 .taken)) (at-bytes .four-bytes .ensures))))
+
+past-requires-2 : tie.Need-past-requires-2
+past-requires-2 c κs = search needs
 
 returns-2 : tie.Need-returns-2
 unfolding modes over
 returns-2 c =
-    let b = c .before .before .read-flag .ensures in
-    same (make-bind _ _ _) (upto (omega arith) (then _ b (same (make-off _ _ _ (c .if1 .left)) (done (b .over)))))
+    let at-left = c .before in
+    let b = at-left .before .before .read-flag .ensures in
+    passed (c .past2 .ensures)
+    (same (make-bind _ _ _) (upto (omega arith) (then _ b (same (make-off _ _ _ (at-left .if1 .left)) (done (b .over))))))
 
 pub parse-intra-16x16-prob-update-spec : {M : Type 1} → statement M
-parse-intra-16x16-prob-update-spec = tie.close (tie.spec read-flag-requires four-bytes-requires returns returns-2)
+parse-intra-16x16-prob-update-spec =
+    tie.close
+    (tie.spec read-flag-requires four-bytes-requires past-requires past-requires-2 returns returns-2)

@@ -6,6 +6,7 @@ use lib.ListN.{length}
 use borrow.Author.Needs.{needs}
 use Rattle.vp8_records.proofs.Arrays.{length-mapped, every-of}
 use Rattle.vp8_records.specs.Shape.{Every, SizedMvContext}
+use Rattle.bool_decoder.proofs.Chain.{passed}
 use Rattle.bool_decoder.proofs.Each.{Turn, begin, room, turn, end}
 use Rattle.vp8_probs.specs.Tables.{mvUpdate}
 use Rattle.vp8_records.specs.Layout.{flatMvContext, laidMvContext}
@@ -71,14 +72,19 @@ loop-again c =
     let row = rw (← zero-add (at-loop .loop .i * 19)) at (c .before .before .mv-context .ensures) in
     turn _ _ (at-loop .loop .inv) (omega (arith, n)) row
 
+past-requires : tie.Need-past-requires Inv-loop μ-loop
+past-requires c κs = search needs
+
 returns : tie.Need-returns Inv-loop μ-loop
 unfolding mvOver motion mvUpdate
 returns c =
-    let start = c .before .before .before in
+    let at-end = c .before in
+    let start = at-end .before .before .before in
     let n = lengths start in
     let rows-of = level flatMvContext laidMvContext SizedMvContext 19 codedMv mvUpdate (λ x h. h) mv-own in
-    same (rows-of (λ v. record { v = v }) 2 0 (start .args .mv-probs .v) n (each-of start) (omega arith))
-    (makes (λ v. record { v = v }) (end _ (c .before .loop .inv) n (c .loop-test .left)))
+    passed (c .past .ensures)
+    (same (rows-of (λ v. record { v = v }) 2 0 (start .args .mv-probs .v) n (each-of start) (omega arith))
+    (makes (λ v. record { v = v }) (end _ (at-end .before .loop .inv) n (at-end .loop-test .left))))
 
 pub parse-mv-prob-update-spec : {M : Type 1} → statement M
 parse-mv-prob-update-spec =
@@ -96,4 +102,5 @@ parse-mv-prob-update-spec =
     add-i
     loop-less
     loop-again
+    past-requires
     returns)

@@ -6,7 +6,7 @@ use mir.Syntax.{w8}
 use mir.Val.{SFits, toZ, ofZ}
 use borrow.Author.Needs.{needs}
 use Rattle.rfc6386.specs.Coded.{quant}
-use Rattle.bool_decoder.proofs.Chain.{then, done}
+use Rattle.bool_decoder.proofs.Chain.{then, done, passed}
 use Rattle.bool_decoder.proofs.Made.{worth}
 use Rattle.vp8_fields.proofs.quantizer.parse_quant_indices.Statement.{statement}
 use Rattle.vp8_fields.proofs.quantizer.parse_quant_indices.Tie as tie
@@ -32,10 +32,13 @@ sint-or-requires-4 c κs = search needs
 sint-or-requires-5 : tie.Need-sint-or-requires-5
 sint-or-requires-5 c κs = search needs
 
+past-requires : tie.Need-past-requires
+past-requires c κs = search needs
+
 returns : tie.Need-returns
 unfolding quant
 returns c =
-    let told-5 = c .before in
+    let told-5 = c .before .before in
     let told-4 = told-5 .before in
     let told-3 = told-4 .before in
     let told-2 = told-3 .before in
@@ -51,7 +54,8 @@ returns c =
     let d = back (at-3 .sint-or3 .result .value) (search (told-3 .struct-told3 .given)) in
     let e = back (at-4 .sint-or4 .result .value) (search (told-4 .struct-told4 .given)) in
     let f = back (at-5 .sint-or5 .result .value) (search (told-5 .struct-told5 .given)) in
-    worth (λ i. record {
+    passed (c .past .ensures)
+    (worth (λ i. record {
       «y_ac_qi» = q .result .value;
       «y_dc_delta» = a i;
       «y2_dc_delta» = b i;
@@ -60,7 +64,7 @@ returns c =
       «uv_ac_delta» = f i;
     })
     (then _ (q .ensures .ran) (then _ (at-1 .sint-or .ensures) (then _ (at-2 .sint-or2 .ensures) (then _ (at-3 .sint-or3 .ensures)
-    (then _ (at-4 .sint-or4 .ensures) (then _ (at-5 .sint-or5 .ensures) (done (at-5 .sint-or5 .ensures .over))))))))
+    (then _ (at-4 .sint-or4 .ensures) (then _ (at-5 .sint-or5 .ensures) (done (at-5 .sint-or5 .ensures .over)))))))))
 
 pub parse-quant-indices-spec : {M : Type 1} → statement M
 parse-quant-indices-spec =
@@ -72,4 +76,5 @@ parse-quant-indices-spec =
     sint-or-requires-3
     sint-or-requires-4
     sint-or-requires-5
+    past-requires
     returns)

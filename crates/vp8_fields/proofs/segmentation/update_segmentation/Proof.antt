@@ -3,7 +3,7 @@ use mathlib.Core.Path.{sym}
 use borrow.Author.Needs.{needs}
 use Rattle.rfc6386.specs.Coded.{segments}
 use Rattle.rfc6386.specs.Call.{segmented}
-use Rattle.bool_decoder.proofs.Chain.{then, done}
+use Rattle.bool_decoder.proofs.Chain.{then, done, passed}
 use Rattle.vp8_fields.specs.Rows.{featured}
 use Rattle.bool_decoder.proofs.Made.{worth, makes, made}
 use Rattle.vp8_fields.proofs.segmentation.update_segmentation.Statement.{statement}
@@ -27,10 +27,13 @@ probs-coded-requires c κs = search needs
 segment-probs-if-requires : tie.Need-segment-probs-if-requires
 segment-probs-if-requires c κs = search needs
 
+past-requires : tie.Need-past-requires
+past-requires c κs = search needs
+
 returns : tie.Need-returns
 unfolding segments segmented featured
 returns c =
-    let at-probs = c .before .before .before in
+    let at-probs = c .before .before .before .before in
     let at-data = at-probs .before .before .before in
     let at-feature = at-data .before in
     let at-map = at-feature .before in
@@ -38,7 +41,8 @@ returns c =
     let g = at-enabled .before .before .args .seg in
     let f = made (at-data .feature-data-if .ensures) in
     let p = made (rw (at-probs .before .probs-coded .ensures) at (at-probs .segment-probs-if .ensures)) in
-    worth (λ i. record {
+    passed (c .past .ensures)
+    (worth (λ i. record {
       «segmentation_enabled» = at-enabled .read-flag .result .bit;
       «update_mb_segmentation_map» = at-map .flag-if .result .bit;
       «update_segment_feature_data» = at-feature .flag-if2 .result .bit;
@@ -49,7 +53,7 @@ returns c =
     })
     (makes (λ s. segmented s g)
     (then _ (at-enabled .read-flag .ensures) (then _ (at-map .flag-if .ensures) (then _ (at-feature .flag-if2 .ensures)
-    (then _ (f .ran) (then _ (p .ran) (done (p .ran .over))))))))
+    (then _ (f .ran) (then _ (p .ran) (done (p .ran .over)))))))))
 
 pub update-segmentation-spec : {M : Type 1} → statement M
 update-segmentation-spec =
@@ -61,4 +65,5 @@ update-segmentation-spec =
     feature-data-if-requires
     probs-coded-requires
     segment-probs-if-requires
+    past-requires
     returns)
