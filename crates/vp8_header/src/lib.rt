@@ -436,6 +436,7 @@ fn header_of(
     let bools = dec.bools();
     let mb_cols = blocks(width);
     let mb_rows = blocks(height);
+    let past = dec.past(area);
     Header {
         key_frame: chunk.key_frame,
         version: chunk.version,
@@ -477,6 +478,7 @@ fn header_of(
         bools,
         mb_cols,
         mb_rows,
+        past,
     }
 }
 

@@ -36,10 +36,14 @@ blocks-requires c κs = search needs
 blocks-requires-2 : tie.Need-blocks-requires-2
 blocks-requires-2 c κs = search needs
 
+past-requires : tie.Need-past-requires
+past-requires c κs = search needs
+
 returns : tie.Need-returns
 unfolding headerOf snapshot probsOver firstOf secondOf thirdOf interOf
 returns c p a b t ex ey ez =
-    let at-bools = c .before .before in
+    let at-rows = c .before in
+    let at-bools = at-rows .before .before in
     let at-snapshot = at-bools .before in
     let s = at-snapshot .snapshot .ensures in
     let at-modes = at-snapshot .before .before in
@@ -47,7 +51,7 @@ returns c p a b t ex ey ez =
     let at-across = at-down .before in
     let at-height = at-across .before in
     rw (at-modes .mode-probs-init-defaults .ensures, at-snapshot .before .pos .ensures, s .range, s .value, s .count)
-    (rw (at-bools .bools .ensures, c .before .blocks2 .ensures, c .blocks3 .ensures)
+    (rw (at-bools .bools .ensures, at-rows .before .blocks2 .ensures, at-rows .blocks3 .ensures, c .past .ensures)
     (rw (at-height .before .pixels .ensures, at-height .pixels2 .ensures, at-across .scale .ensures, at-down .scale2 .ensures)
     (rw (ex, ey, ez))))
 
@@ -65,4 +69,5 @@ header-of-spec =
     bools-requires
     blocks-requires
     blocks-requires-2
+    past-requires
     returns)

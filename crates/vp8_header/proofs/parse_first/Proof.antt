@@ -34,7 +34,7 @@ returns c =
     let at-update = at-type .before in
     let at-clamping = at-update .before in
     let at-space = at-clamping .before in
-    let g = made (at-update .update-segmentation .ensures) in
+    let g = made (at-update .update-segmentation .ensures .ran) in
     worth (λ i. record {
       «color_space» = at-space .flag-if .result .bit;
       «clamping_type» = at-clamping .flag-if2 .result .bit;

@@ -37,9 +37,9 @@ returns c =
     let at-last = at-golden .before in
     let at-intra = at-last .before in
     let kept = at-intra .before .before .args in
-    let y = made (at-luma .parse-intra-16x16-prob-update .ensures) in
-    let u = made (at-chroma .parse-intra-chroma-prob-update .ensures) in
-    let v = made (at-motion .parse-mv-prob-update .ensures) in
+    let y = made (at-luma .parse-intra-16x16-prob-update .ensures .ran) in
+    let u = made (at-chroma .parse-intra-chroma-prob-update .ensures .ran) in
+    let v = made (at-motion .parse-mv-prob-update .ensures .ran) in
     worth (λ i. record {
       «prob_intra» = at-intra .read-byte .result .value;
       «prob_last» = at-last .read-byte2 .result .value;

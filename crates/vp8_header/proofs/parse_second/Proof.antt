@@ -26,7 +26,7 @@ returns c =
     let at-quant = at-refresh .before in
     let at-log2 = at-quant .before in
     let at-deltas = at-log2 .before in
-    let a = made (at-deltas .parse-mb-lf-adjustments .ensures) in
+    let a = made (at-deltas .parse-mb-lf-adjustments .ensures .ran) in
     let f = made (at-refresh .parse-refresh .ensures) in
     worth (λ i. record {
       «mb_lf_adjust» = sym (a .is) i;
@@ -35,7 +35,7 @@ returns c =
       «refresh» = sym (f .is) i;
     })
     (makes (secondOf (at-deltas .before .before .args .adj))
-    (then _ (a .ran) (then _ (at-log2 .read-byte .ensures .ran) (then _ (at-quant .parse-quant-indices .ensures)
+    (then _ (a .ran) (then _ (at-log2 .read-byte .ensures .ran) (then _ (at-quant .parse-quant-indices .ensures .ran)
     (then _ (f .ran) (done (f .ran .over)))))))
 
 pub parse-second-spec : {M : Type 1} → statement M

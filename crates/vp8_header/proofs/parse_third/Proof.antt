@@ -28,7 +28,7 @@ returns c =
     let at-skip = at-skip-prob .before in
     let at-tokens = at-skip .before in
     let at-start = at-tokens .before .before .before .before .before in
-    let t = made (at-tokens .parse-token-prob-update .ensures) in
+    let t = made (at-tokens .parse-token-prob-update .ensures .ran) in
     let n = made (at-inter .parse-inter-if .ensures) in
     worth (λ i. record {
       «coeff_prob» = sym (t .is) i;
