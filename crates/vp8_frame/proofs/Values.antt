@@ -41,7 +41,7 @@ field-0 = refl
 pub field-1 : fieldOf P′.mir 1 ≡ some (Hd′.mir, 24)
 field-1 = refl
 
-pub field-2 : fieldOf P′.mir 2 ≡ some (T′.mir, 1212)
+pub field-2 : fieldOf P′.mir 2 ≡ some (T′.mir, 1216)
 field-2 = refl
 
 -- what whoever holds the answer knows of its fields
