@@ -28,7 +28,7 @@ motionAt m n = getD (getD (m .v) (n % 2) (record { v = [] }) .v) (n / 2 % 19) 0
 abbrev pub sample : CoeffProbs → MvProbs → ModeProbs → ℕ → List ℕ
 sample c m modes n = (coefficientAt c n ∷ motionAt m n ∷ []) ++ flatModes modes
 
--- all but the bools and the macroblock counts, which the Rust does not have
+-- all but the bools, the macroblock counts and the bits past the end, which the Rust does not have
 abbrev pub backNumbers : Header → List ℕ
 backNumbers h = flagsOf h ++ take 4 (tailOf h)
 

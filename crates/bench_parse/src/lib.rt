@@ -107,7 +107,7 @@ fn probs(sum: u64, c: CoeffProbs, m: MvProbs, modes: ModeProbs, place: u32) -> u
 }
 
 // The snapshot and the position.
-fn end(sum: u64, tail: [u32; 7]) -> u64
+fn end(sum: u64, tail: [u32; 8]) -> u64
     ensures { λ r. ⌜ r ≡ folds sum (take 4 tail) ⌝ }
 {
     words(sum, &tail[..4])

@@ -9,7 +9,7 @@ use Rattle.rfc6386.specs.Reads.{Rd, ret, run, make}
 use Rattle.rfc6386.proofs.Trees.{run-bind}
 use Rattle.bool_decoder.specs.declared.BoolDecoder.{BoolDecoder}
 use Rattle.bool_decoder.specs.Answer.{Allows, Refuses}
-use Rattle.bool_decoder.specs.Model.{out}
+use Rattle.bool_decoder.specs.Model.{out, pastOf}
 use Rattle.bool_decoder.specs.Window.{stateOf, Over}
 use Rattle.bool_script.specs.Script.{orRefused, answered, Gives, Leaves, Ask}
 use Rattle.bool_script.specs.declared.Value.{Value}
@@ -20,28 +20,30 @@ made : {A : Type 0} (f : A → Value) (m : Rd A) (l : ℕ) (s : State) {a : A} {
 unfolding make run
 made {A} f m l s e = run-bind m (λ x. ret (f x)) l s ∙ ap (λ (o : Out A). out (f (o .got)) (o .then)) e
 
-pub allowed : {A : Type 0} (f : A → Value) (m : Rd A) {area : List ℕ} {d : BoolDecoder} {width wanted : ℕ} {a : A} {d' : BoolDecoder}
-    → Allows m area d width wanted a d' → Gives area (record { width = width; wanted = wanted; tree = make f m }) d (f a) d'
+pub allowed : {A : Type 0} (f : A → Value) (m : Rd A) {area : List ℕ} {d : BoolDecoder} {width wanted : ℕ} {a : A} {q : ℕ} {d' : BoolDecoder}
+    → Allows m area d width wanted a q d' → Gives area (record { width = width; wanted = wanted; tree = make f m }) d (f a) q d'
 unfolding answered
 allowed f m {area} {d} g = record {
   is =
       ap (λ (k : ℕ). orRefused k (stateOf area d) (run (make f m) (bits area) (stateOf area d))) (g .free)
-      ∙ made f m (bits area) (stateOf area d) (g .ran .is);
-  over = g .ran .over;
+      ∙ made f m (bits area) (stateOf area d) (g .read .ran .is);
+  past = g .read .past;
+  over = g .read .ran .over;
 }
 
 some-refused : (k n : ℕ) (s : State) (o : Out Value) → n ≡ k → 0 < n → orRefused k s o ≡ out (Refused n) s
 some-refused zero n s o e h = absurd (omega (arith, e, h))
 some-refused (suc k) n s o e h = ap (λ (j : ℕ). out (Refused j) s) (sym e)
 
-pub refused : {area : List ℕ} {d : BoolDecoder} {width wanted n : ℕ} (m : Rd Value)
-    → Over area d → Refuses area d width wanted n → Gives area (record { width = width; wanted = wanted; tree = m }) d (Refused n) d
+pub refused : {area : List ℕ} {d : BoolDecoder} {width wanted n : ℕ} (m : Rd Value) → Over area d → Refuses area d width wanted n
+    → Gives area (record { width = width; wanted = wanted; tree = m }) d (Refused n) (pastOf area d) d
 unfolding answered
 refused {area} {d} {n} m o g = record {
   is = some-refused _ n (stateOf area d) (run m (bits area) (stateOf area d)) (g .is) (g .some);
+  past = refl;
   over = o;
 }
 
 -- where a decoder that has answered is left
-pub leaves : {area : List ℕ} {a : Ask} {d : BoolDecoder} {v : Value} {d' : BoolDecoder} → Gives area a d v d' → Leaves area a d d'
+pub leaves : {area : List ℕ} {a : Ask} {d : BoolDecoder} {v : Value} {q : ℕ} {d' : BoolDecoder} → Gives area a d v q d' → Leaves area a d d'
 leaves g = record { state = sym (ap (λ (o : Out Value). o .then) (g .is)); over = g .over }

@@ -1,11 +1,12 @@
--- The line that tells a script, as tests/oracle/README.md lays it out: for each read what it gave, `,@` and the position after it, with
--- spaces between; then ` |` and range, value, count and position.
+-- The line that tells a script (docs/RULES.md, "The programs"): for each read what it gave, `,@` and the position after it, `+` and the
+-- bits past the end, with spaces between the reads; then ` |` and range, value, count, position and bits past the end.
 use Prim.Native.Nat.{ℕ}
 use mathlib.Core.Bool.{Bool, true, false}
 use mathlib.Core.List.{List, [], _∷_, _++_}
-use Rattle.rfc6386.specs.Decoder.{State, Out, bits, start, whole, countOf, position}
+use Rattle.rfc6386.specs.Decoder.{State, Out, bits, start, whole, countOf, position, past}
 use Rattle.rfc6386.specs.Reads.{bit}
 use Rattle.text.specs.Digits.{decimalOf, signedOf}
+use Rattle.text.specs.Template.{ascii, filled}
 use Rattle.bool_script.specs.Script.{askOf, answered}
 use Rattle.bool_script.specs.declared.Value.{Value}
 use Rattle.bool_script.specs.declared.Value.the-variants.{Bit, Plain, Signed, Refused}
@@ -17,21 +18,18 @@ valueText (Plain n) = decimalOf n
 valueText (Signed z) = signedOf z
 valueText (Refused k) = 114 ∷ decimalOf k
 
--- one read: what it gave, `,@`, and the position after it
+-- one read: what it gave, the position after it, and the bits past the end
 unfoldable pub readText : ℕ → Out Value → List ℕ
-readText l o = valueText (o .got) ++ (44 ∷ 64 ∷ decimalOf (position l (o .then)))
+readText l o = valueText (o .got) ++ filled (ascii ",@|+|") (position l (o .then) ∷ past l (o .then) ∷ [])
 
 -- a space before every read but the first
 abbrev pub gapText : Bool → List ℕ
 gapText true = []
 gapText false = 32 ∷ []
 
-abbrev pub spaced : ℕ → List ℕ
-spaced n = 32 ∷ decimalOf n
-
--- the end of a line: what the decoder shows
+-- the end of a line: a bar, and the numbers that the decoder shows, each after a space
 unfoldable pub endText : ℕ → State → List ℕ
-endText l s = (32 ∷ 124 ∷ []) ++ (spaced (s .r) ++ (spaced (whole l s) ++ (spaced (countOf s) ++ spaced (position l s))))
+endText l s = ascii " |" ++ filled (ascii " | | | | |") (s .r ∷ whole l s ∷ countOf s ∷ position l s ∷ past l s ∷ [])
 
 -- the reads from a state on, the first of all where `first` is set; a byte without its second is no read
 unfoldable pub lineFrom : List ℕ → Bool → List ℕ → State → List ℕ

@@ -8,10 +8,11 @@ use lib.ListN.{length}
 use Rattle.rfc6386.specs.Decoder.{State, Out, bits, pick, refusalOf}
 use Rattle.rfc6386.specs.Reads.{Rd, run, bool, lit, sint, make}
 use Rattle.bool_decoder.specs.declared.BoolDecoder.{BoolDecoder}
-use Rattle.bool_decoder.specs.Model.{out}
+use Rattle.bool_decoder.specs.Model.{out, pastOf}
 use Rattle.bool_decoder.specs.Window.{stateOf, Over}
 use Rattle.bool_script.specs.declared.Value.{Value}
 use Rattle.bool_script.specs.declared.Value.the-variants.{Bit, Plain, Signed, Refused}
+use Rattle.bool_script.specs.declared.Answer.{Answer}
 
 -- what a read asks of the bare decoder: a width, which is limited, the bools that it wants, and its tree
 pub record Ask : Type 0 where
@@ -42,10 +43,15 @@ orRefused (suc k) s o = out (Refused (suc k)) s
 unfoldable pub answered : List ℕ → Ask → State → Out Value
 answered area a s = orRefused (refusalOf (length area) (a .width) (a .wanted) (s .n)) s (run (a .tree) (bits area) s)
 
--- the decoder d answers v, and leaves d'
-pub record Gives (area : List ℕ) (a : Ask) (d : BoolDecoder) (v : Value) (d' : BoolDecoder) : Type 0 where
+-- the decoder d answers v, and leaves d', which is q bits past the end
+pub record Gives (area : List ℕ) (a : Ask) (d : BoolDecoder) (v : Value) (q : ℕ) (d' : BoolDecoder) : Type 0 where
   pub is : answered area a (stateOf area d) ≡ out v (stateOf area d')
+  pub past : q ≡ pastOf area d'
   pub over : Over area d'
+
+-- a refusal, which leaves d
+abbrev pub refusedOf : List ℕ → BoolDecoder → ℕ → Answer
+refusedOf area d n = record { value = Refused n; past = pastOf area d; dec = d }
 
 -- d' is left where d has answered
 pub record Leaves (area : List ℕ) (a : Ask) (d d' : BoolDecoder) : Type 0 where

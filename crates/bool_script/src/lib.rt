@@ -1,5 +1,6 @@
 // A script of reads over an area, run on the bare decoder: each read is a kind (0 bool, 1 literal, 2 signed literal) and a probability
-// or a width. The line tells what each read gave and where it left the decoder, and at its end what the decoder shows.
+// or a width. The line tells what each read gave, where it left the decoder and how far past the area's end, and at its end what the
+// decoder shows.
 pub mod input;
 
 use bool_decoder::BoolAnswer;
@@ -11,8 +12,8 @@ ghost use lib.Dec.{eqb};
 ghost use Rattle.rfc6386.specs.Decoder.{bits};
 ghost use Rattle.bool_decoder.specs.Window.{Over, stateOf};
 ghost use Rattle.text.specs.Text.{text, puts};
-ghost use Rattle.bool_script.specs.Script.{askBool, askPlain, askSigned, askOf, answered, Gives, Leaves, known};
-ghost use Rattle.bool_script.specs.Line.{valueText, readText, gapText, endText, spaced as Line·spaced, lineOf};
+ghost use Rattle.bool_script.specs.Script.{askBool, askPlain, askSigned, askOf, answered, refusedOf, Gives, Leaves, known};
+ghost use Rattle.bool_script.specs.Line.{valueText, readText, gapText, endText, lineOf};
 
 // What a read gave.
 pub enum Value {
@@ -30,6 +31,8 @@ pub enum Value {
 pub struct Answer {
     // What the read gave.
     pub value: Value,
+    // How many bits the decoder has then gone past the area's end.
+    pub past: u32,
     // The decoder after it, where a refusal leaves it as it was.
     pub dec: BoolDecoder,
 }
@@ -40,67 +43,72 @@ struct Told {
     at: usize,
 }
 
+// A refused read leaves the decoder where it was.
+fn refused(area: &[u8], dec: BoolDecoder, number: u32) -> Answer
+    ensures { λ r. ⌜ r ≡ refusedOf (now (area .entry)) dec number ⌝ }
+{
+    Answer {
+        value: Value::Refused(number),
+        past: dec.past(area),
+        dec,
+    }
+}
+
 fn read_bool(area: &[u8], dec: BoolDecoder, probability: u8) -> Answer
     requires { ⌜ Over (now area) dec ⌝ }
-    ensures { λ r. ⌜ Gives (now (area .entry)) (askBool probability) dec (r .value) (r .dec) ⌝ }
+    ensures { λ r. ⌜ Gives (now (area .entry)) (askBool probability) dec (r .value) (r .past) (r .dec) ⌝ }
 {
     match dec.read_bool_with_prob(area, probability) {
         BoolAnswer::Read(r) => {
             let next = r.dec;
             Answer {
                 value: Value::Bit(r.bit),
+                past: r.past,
                 dec: next,
             }
         }
-        BoolAnswer::Refused(number) => Answer {
-            value: Value::Refused(number),
-            dec,
-        },
+        BoolAnswer::Refused(number) => refused(area, dec, number),
     }
 }
 
 fn read_plain(area: &[u8], dec: BoolDecoder, width: u8) -> Answer
     requires { ⌜ Over (now area) dec ⌝ }
-    ensures { λ r. ⌜ Gives (now (area .entry)) (askPlain width) dec (r .value) (r .dec) ⌝ }
+    ensures { λ r. ⌜ Gives (now (area .entry)) (askPlain width) dec (r .value) (r .past) (r .dec) ⌝ }
 {
     match dec.read_uint(area, width as u32) {
         UintAnswer::Read(r) => {
             let next = r.dec;
             Answer {
                 value: Value::Plain(r.value),
+                past: r.past,
                 dec: next,
             }
         }
-        UintAnswer::Refused(number) => Answer {
-            value: Value::Refused(number),
-            dec,
-        },
+        UintAnswer::Refused(number) => refused(area, dec, number),
     }
 }
 
 fn read_signed(area: &[u8], dec: BoolDecoder, width: u8) -> Answer
     requires { ⌜ Over (now area) dec ⌝ }
-    ensures { λ r. ⌜ Gives (now (area .entry)) (askSigned width) dec (r .value) (r .dec) ⌝ }
+    ensures { λ r. ⌜ Gives (now (area .entry)) (askSigned width) dec (r .value) (r .past) (r .dec) ⌝ }
 {
     match dec.read_sint(area, width as u32) {
         SintAnswer::Read(r) => {
             let next = r.dec;
             Answer {
                 value: Value::Signed(r.value),
+                past: r.past,
                 dec: next,
             }
         }
-        SintAnswer::Refused(number) => Answer {
-            value: Value::Refused(number),
-            dec,
-        },
+        SintAnswer::Refused(number) => refused(area, dec, number),
     }
 }
 
 // One read of a script. A kind that is not known counts as a signed literal.
 pub fn read(area: &[u8], dec: BoolDecoder, kind: u8, number: u8) -> Answer
     requires { ⌜ Over (now area) dec ⌝ }
-    ensures { λ r. ⌜ Gives (now (area .entry)) (askOf kind number) dec (r .value) (r .dec) ⌝ }
+    ensures { λ r. ⌜ Gives (now (area .entry)) (askOf kind number) dec (r .value) (r .past) (r .dec) ⌝ }
 {
     if kind == 0 {
         return read_bool(area, dec, number);
@@ -142,30 +150,27 @@ fn step(area: &[u8], dec: BoolDecoder, kind: u8, number: u8, out: &mut [u8], at:
     let value = answer.value;
     let next = answer.dec;
     let told = tell(out, at, value);
-    let comma = text::bytes(out, told, b",@");
-    let end = text::decimal(out, comma, next.pos(area) as u64);
+    let reached = [next.pos(area), answer.past];
+    let end = text::fill(out, told, b",@|+|", &reached);
     Told { dec: next, at: end }
 }
 
-fn spaced(out: &mut [u8], at: usize, n: u64) -> usize
-    ensures { λ r. ⌜ text (now (out .exit)) r ≡ puts (text (now (out .entry)) at) (Line·spaced n) ⌝ }
-{
-    let after = text::byte(out, at, b' ');
-    text::decimal(out, after, n)
-}
-
-// What the decoder shows: range, value, count and position.
+// What the decoder shows: range, value, count, position and bits past the end.
 fn finish(area: &[u8], dec: BoolDecoder, out: &mut [u8], at: usize) -> usize
     requires { ⌜ Over (now area) dec ⌝ }
     ensures { λ r. ⌜ text (now (out .exit)) r
         ≡ puts (text (now (out .entry)) at) (endText (bits (now (area .entry))) (stateOf (now (area .entry)) dec)) ⌝ }
 {
     let state = dec.snapshot(area);
+    let shown = [
+        state.range as u32,
+        state.value as u32,
+        state.count as u32,
+        dec.pos(area),
+        dec.past(area),
+    ];
     let bar = text::bytes(out, at, b" |");
-    let range = spaced(out, bar, state.range as u64);
-    let value = spaced(out, range, state.value as u64);
-    let count = spaced(out, value, state.count as u64);
-    spaced(out, count, dec.pos(area) as u64)
+    text::fill(out, bar, b" | | | | |", &shown)
 }
 
 // Whether every kind of the script is known.

@@ -17,7 +17,7 @@ use Rattle.vp8_compare.specs.declared.Place.the-variants.{At, Nowhere}
 use Rattle.vp8_compare.specs.declared.Found.{Found}
 use Rattle.vp8_compare.specs.declared.Found.the-variants.{Same, Refusal, Carried as Carries, Number, Probability, Kept}
 
--- a header's fifty numbers, in the order of a list
+-- a header's fifty-one numbers, in the order of a list
 abbrev pub backNumbers : Header → List ℕ
 backNumbers h = flagsOf h ++ tailOf h
 

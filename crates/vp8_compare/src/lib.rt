@@ -96,7 +96,7 @@ fn front_apart(h: Header, stored: &[u32]) -> Place
     or(in_shape, or(in_sizes, in_quantizers))
 }
 
-// The other twenty.
+// The other twenty-one.
 fn back_apart(h: Header, stored: &[u32]) -> Place
     ensures { λ r. ⌜ r ≡ apart 30 (backNumbers h) (drop 30 (now (stored .entry))) ⌝ }
 {

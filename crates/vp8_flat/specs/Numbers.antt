@@ -75,7 +75,8 @@ flagsOf h =
     ∷ []
 
 abbrev pub tailOf : Header → List ℕ
-tailOf h = h .«bd_range» ∷ h .«bd_value» ∷ h .«bd_count» ∷ h .«header_size» ∷ h .bools ∷ h .«mb_cols» ∷ h .«mb_rows» ∷ []
+tailOf h =
+    h .«bd_range» ∷ h .«bd_value» ∷ h .«bd_count» ∷ h .«header_size» ∷ h .bools ∷ h .«mb_cols» ∷ h .«mb_rows» ∷ h .past ∷ []
 
 abbrev pub lookOf : Look → List ℕ
 lookOf l =

@@ -143,7 +143,7 @@ pub fn flags(h: Header) -> [u32; 13]
 }
 
 // The snapshot of the decoder, and what follows from the whole header.
-pub fn tail(h: Header) -> [u32; 7]
+pub fn tail(h: Header) -> [u32; 8]
     ensures { λ r. ⌜ r ≡ tailOf h ⌝ }
 {
     [
@@ -154,6 +154,7 @@ pub fn tail(h: Header) -> [u32; 7]
         h.bools,
         wide16(h.mb_cols),
         wide16(h.mb_rows),
+        h.past,
     ]
 }
 

@@ -14,7 +14,7 @@ use vp8_show::input::Came;
 ghost use Prim.Native.Nat.{_≤_};
 
 // The bytes of each number of a header, in the order of the list.
-const WIDTHS: [u8; 50] = [
+const WIDTHS: [u8; 51] = [
     1,
     1,
     1,
@@ -65,6 +65,7 @@ const WIDTHS: [u8; 50] = [
     4,
     2,
     2,
+    4,
 ];
 
 // Frames are counted in all and within the sequence; `more` says whether the list may go on.
@@ -176,7 +177,7 @@ fn judged(tally: Tally, case: u32, found: Found) -> Tally {
 }
 
 // An accepted frame's header: its numbers, and the changed probabilities.
-fn take_header(numbers: &mut [u32; 50], probs: &mut [u8]) -> bool {
+fn take_header(numbers: &mut [u32; 51], probs: &mut [u8]) -> bool {
     if list::numbers(numbers, &WIDTHS) {
         list::patch(probs)
     } else {
@@ -187,7 +188,7 @@ fn take_header(numbers: &mut [u32; 50], probs: &mut [u8]) -> bool {
 // The stored answer: the refusal with what it carries, an accepted frame's header, the kept numbers.
 fn take_answer(
     given: &mut [u32; 3],
-    numbers: &mut [u32; 50],
+    numbers: &mut [u32; 51],
     probs: &mut [u8],
     kept: &mut [u8],
 ) -> bool {
@@ -208,7 +209,7 @@ fn take_answer(
 fn compared(
     parsed: Parsed,
     given: &[u32; 3],
-    numbers: &[u32; 50],
+    numbers: &[u32; 51],
     probs: &[u8],
     kept: &[u8],
 ) -> Found {
@@ -225,7 +226,7 @@ fn frame(
     kept: &mut [u8],
 ) -> Replay {
     let mut given = [0u32; 3];
-    let mut numbers = [0u32; 50];
+    let mut numbers = [0u32; 51];
     if !take_answer(&mut given, &mut numbers, probs, kept) {
         return wrong(replay, b"an answer that is cut short or has a wrong index");
     }
@@ -374,7 +375,7 @@ fn records(fresh: &[u8], probs: &mut [u8], kept: &mut [u8]) {
 fn main() {
     let mut head = [0u8; 8];
     let got = lines::take(&mut head, 8);
-    if !check::same(&head[..got], b"SBFRAME1") {
+    if !check::same(&head[..got], b"SBFRAME2") {
         lines::say(b"not a list of frames");
         return;
     }

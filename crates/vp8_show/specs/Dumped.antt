@@ -46,7 +46,7 @@ probsText h =
 
 -- the decoder's snapshot, and what follows from the whole header
 abbrev pub tailText : Header → List ℕ
-tailText h = filled (ascii " range=| value=| count=| hsize=| bools=| cols=| rows=|") (tailOf h)
+tailText h = filled (ascii " range=| value=| count=| hsize=| bools=| cols=| rows=| past=|") (tailOf h)
 
 unfoldable pub headerText : Header → List ℕ
 headerText h = ascii "ok" ++ (shapeText h ++ (quantText (h .«quant_indices») ++ (flagsText h ++ (probsText h ++ tailText h))))

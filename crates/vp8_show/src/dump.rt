@@ -98,7 +98,7 @@ fn tail(out: &mut [u8], at: usize, h: Header) -> usize
     text::fill(
         out,
         at,
-        b" range=| value=| count=| hsize=| bools=| cols=| rows=|",
+        b" range=| value=| count=| hsize=| bools=| cols=| rows=| past=|",
         &tail,
     )
 }

@@ -12,7 +12,7 @@ array-share-prefix-tail c = search needs
 
 slice-aggregate-words : tie.Need-slice-aggregate-words
 slice-aggregate-words c =
-    let size : length (c .before .args .t2) ≡ 7 = search needs in
+    let size : length (c .before .args .t2) ≡ 8 = search needs in
     sym (length-take-le 4 (c .before .args .t2) (omega arith))
 
 words-requires : tie.Need-words-requires

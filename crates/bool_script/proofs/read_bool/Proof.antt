@@ -17,12 +17,16 @@ enum-known-number c = search needs
 returns : tie.Need-returns
 returns c = allowed Bit _ (rw (c .before .before .r .given .1) at (c .before .before .before .before .read-bool-with-prob .ensures))
 
+refused-requires : tie.Need-refused-requires
+refused-requires c κs = search needs
+
 returns-2 : tie.Need-returns-2
 returns-2 c =
-    let called = c .before .before .before in
-    refused _ (called .before .before .pre) (rw (c .before .number .given .1) at (called .read-bool-with-prob .ensures))
+    let found = c .before in
+    let called = found .before .before .before in
+    rw (c .refused .ensures) (refused _ (called .before .before .pre) (rw (found .before .number .given .1) at (called .read-bool-with-prob .ensures)))
 
 pub read-bool-spec : {M : Type 1} → statement M
 read-bool-spec =
     tie.close
-    (tie.spec read-bool-with-prob-requires enum-known-r enum-known-number returns returns-2)
+    (tie.spec read-bool-with-prob-requires enum-known-r enum-known-number refused-requires returns returns-2)

@@ -17,11 +17,15 @@ enum-known-number c = search needs
 returns : tie.Need-returns
 returns c = allowed Plain _ (rw (c .before .before .r .given .1) at (c .before .before .before .before .read-uint .ensures))
 
+refused-requires : tie.Need-refused-requires
+refused-requires c κs = search needs
+
 returns-2 : tie.Need-returns-2
 returns-2 c =
-    let called = c .before .before .before in
-    refused _ (called .before .before .pre) (rw (c .before .number .given .1) at (called .read-uint .ensures))
+    let found = c .before in
+    let called = found .before .before .before in
+    rw (c .refused .ensures) (refused _ (called .before .before .pre) (rw (found .before .number .given .1) at (called .read-uint .ensures)))
 
 pub read-plain-spec : {M : Type 1} → statement M
 read-plain-spec =
-    tie.close (tie.spec read-uint-requires enum-known-r enum-known-number returns returns-2)
+    tie.close (tie.spec read-uint-requires enum-known-r enum-known-number refused-requires returns returns-2)

@@ -22,11 +22,15 @@ returns c =
     let back = toZ-ofZ {w = w32} {z = found .r .given .0 .0 .value} (record { sfits = c .struct-told .given .0 .1 }) in
     rw back (allowed Signed _ (rw (found .r .given .1) at (found .before .before .read-sint .ensures)))
 
+refused-requires : tie.Need-refused-requires
+refused-requires c κs = search needs
+
 returns-2 : tie.Need-returns-2
 returns-2 c =
-    let called = c .before .before .before in
-    refused _ (called .before .before .pre) (rw (c .before .number .given .1) at (called .read-sint .ensures))
+    let found = c .before in
+    let called = found .before .before .before in
+    rw (c .refused .ensures) (refused _ (called .before .before .pre) (rw (found .before .number .given .1) at (called .read-sint .ensures)))
 
 pub read-signed-spec : {M : Type 1} → statement M
 read-signed-spec =
-    tie.close (tie.spec read-sint-requires enum-known-r enum-known-number returns returns-2)
+    tie.close (tie.spec read-sint-requires enum-known-r enum-known-number refused-requires returns returns-2)

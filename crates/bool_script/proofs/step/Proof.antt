@@ -1,10 +1,11 @@
--- What the read gave, the comma and the position are the pieces of its text; `leaves` of `Answers` says where the decoder is left.
+-- What the read gave, the position and the bits past the end are the pieces of its text; `leaves` of `Answers` says where the decoder is
+-- left.
 use Prim.Native.Nat.{ℕ}
 use mathlib.Core.Path.{_≡_, ap}
 use mathlib.Core.List.{[], _∷_, _++_}
-use Rattle.rfc6386.specs.Decoder.{State, Out, position}
+use Rattle.rfc6386.specs.Decoder.{State, Out, position, past}
 use Rattle.bool_decoder.specs.Model.{out}
-use Rattle.text.specs.Digits.{decimalOf}
+use Rattle.text.specs.Template.{ascii, filled}
 use Rattle.text.proofs.Puts.{then, worded}
 use Rattle.bool_script.specs.Line.{valueText, readText}
 use Rattle.bool_script.specs.declared.Value.{Value}
@@ -13,10 +14,10 @@ use borrow.Author.Needs.{needs}
 use Rattle.bool_script.proofs.step.Statement.{statement}
 use Rattle.bool_script.proofs.step.Tie as tie
 
-read-text : (l : ℕ) (o : Out Value) (v : Value) (s : State) → o ≡ out v s
-    → valueText v ++ (44 ∷ 64 ∷ decimalOf (position l s)) ≡ readText l o
+read-text : (l : ℕ) (o : Out Value) (v : Value) (s : State) (at q : ℕ) → o ≡ out v s → at ≡ position l s → q ≡ past l s
+    → valueText v ++ filled (ascii ",@|+|") (at ∷ q ∷ []) ≡ readText l o
 unfolding readText
-read-text l o v s e = rw e
+read-text l o v s at q e p r = rw (e, p, r)
 
 read-requires : tie.Need-read-requires
 read-requires c κs = search needs
@@ -24,32 +25,31 @@ read-requires c κs = search needs
 tell-requires : tie.Need-tell-requires
 tell-requires c κs = search needs
 
-slice-aggregate-bytes : tie.Need-slice-aggregate-bytes
-slice-aggregate-bytes c = search needs
-
-bytes-requires : tie.Need-bytes-requires
-bytes-requires c κs = search needs
-
 pos-requires : tie.Need-pos-requires
 pos-requires c κs = search needs
 
-cast-decimal : tie.Need-cast-decimal
-cast-decimal c = search needs
+slice-aggregate-fill : tie.Need-slice-aggregate-fill
+slice-aggregate-fill c = search needs
 
-decimal-requires : tie.Need-decimal-requires
-decimal-requires c κs = search needs
+slice-aggregate-fill-2 : tie.Need-slice-aggregate-fill-2
+slice-aggregate-fill-2 c = search needs
+
+fill-requires : tie.Need-fill-requires
+fill-requires c κs = search needs
 
 same-length : tie.Need-same-length
 same-length c = search needs
 
 returns : tie.Need-returns
 returns c =
-    let at-bytes = c .before .before .before .before .before .before .before in
-    let at-tell = at-bytes .before .before .before .before .before in
-    let read = at-tell .before .before .before .read .ensures in
-    let place = worded _ _ _ _ (c .before .before .decimal .ensures) (ap decimalOf (c .before .before .before .pos .ensures)) in
-    let pieces = then _ _ _ _ _ (at-tell .tell .ensures) (then _ _ _ (44 ∷ 64 ∷ []) _ (at-bytes .bytes .ensures) place) in
-    (leaves read, worded _ _ _ _ pieces (read-text _ _ _ _ (read .is)))
+    let at-fill = c .before .before in
+    let at-pos = at-fill .before .before .before .before in
+    let at-tell = at-pos .before .before .before in
+    let read = at-tell .before .before .before .read .ensures in (
+      leaves read,
+      worded _ _ _ _ (then _ _ _ _ _ (at-tell .tell .ensures) (at-fill .fill .ensures))
+          (read-text _ _ _ _ _ _ (read .is) (at-pos .pos .ensures) (read .past)),
+    )
 
 pub step-spec : {M : Type 1} → statement M
 step-spec =
@@ -57,10 +57,9 @@ step-spec =
     (tie.spec
     read-requires
     tell-requires
-    slice-aggregate-bytes
-    bytes-requires
     pos-requires
-    cast-decimal
-    decimal-requires
+    slice-aggregate-fill
+    slice-aggregate-fill-2
+    fill-requires
     same-length
     returns)
