@@ -1,4 +1,4 @@
-//! Puts the Rust as given into OUT_DIR: unchanged, and edited to be the standard's reader; each also with one line that counts bools.
+//! Puts the Rust as given into OUT_DIR: unchanged, and edited to be the standard's reader; each also with two lines that count.
 
 // Half of it serves the slips.
 #[allow(dead_code)]
@@ -19,12 +19,12 @@ fn main() {
         println!("cargo:rerun-if-changed={}", Path::new(&from).join(name).display());
     }
     let given = assemble::Given::read(Path::new(&from)).unwrap_or_else(|why| stop(&why));
-    let access = here.join("src/access.rs");
+    let src = here.join("src");
     let standard = given.standard(&[]);
-    write(&out.join("plain.rs"), &given.modules("crate::", &access));
-    write(&out.join("counted.rs"), &given.counted().modules("crate::counted::", &access));
-    write(&out.join("standard.rs"), &standard.modules("crate::standard::", &access));
-    write(&out.join("standard_counted.rs"), &standard.counted().modules("crate::standard_counted::", &access));
+    write(&out.join("plain.rs"), &given.modules("crate::", &src));
+    write(&out.join("counted.rs"), &given.counted().modules("crate::counted::", &src));
+    write(&out.join("standard.rs"), &standard.modules("crate::standard::", &src));
+    write(&out.join("standard_counted.rs"), &standard.counted().modules("crate::standard_counted::", &src));
 }
 
 fn write(path: &Path, text: &str) {

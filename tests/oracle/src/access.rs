@@ -87,8 +87,8 @@ fn numbers(h: &Header) -> Vec<i64> {
     out.extend([h.sign_bias_golden, h.sign_bias_alternate, h.mb_no_coeff_skip].map(i64::from));
     out.extend([h.prob_skip_false, h.prob_intra, h.prob_last, h.prob_golden].map(i64::from));
     out.extend([h.bd_range as i64, h.bd_value as i64, h.bd_count as i64, h.header_size as i64]);
-    // Not in the Rust: the bools are put in by who counts them, columns and rows are the port's.
-    out.extend([0, crate::answer::blocks(h.width as i64), crate::answer::blocks(h.height as i64)]);
+    // Not in the Rust: the bools and the bits past the end are put in by who counts them, columns and rows are the port's.
+    out.extend([0, crate::answer::blocks(h.width as i64), crate::answer::blocks(h.height as i64), 0]);
     out
 }
 

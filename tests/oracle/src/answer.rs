@@ -33,7 +33,7 @@ pub const COEFFS: usize = 1056;
 pub const MOTION: usize = 38;
 
 /// The header's numbers in the order of the dump line, with their bytes in the list of frames.
-pub const NUMBERS: [(&str, usize); 50] = [
+pub const NUMBERS: [(&str, usize); 51] = [
     ("key", 1), ("ver", 1), ("show", 1), ("chunk", 1), ("first", 4), ("w", 2), ("h", 2),
     ("hs", 1), ("vs", 1), ("cs", 1), ("ct", 1), ("ft", 1), ("lvl", 1), ("sharp", 1), ("n", 1), ("log2", 1),
     ("part0", 4), ("part1", 4), ("part2", 4), ("part3", 4), ("part4", 4), ("part5", 4), ("part6", 4), ("part7", 4),
@@ -41,9 +41,11 @@ pub const NUMBERS: [(&str, usize); 50] = [
     ("rep", 1), ("rl", 1), ("rg", 1), ("ra", 1), ("cg", 1), ("ca", 1), ("sg", 1), ("sa", 1),
     ("skip", 1), ("psf", 1), ("pi", 1), ("pl", 1), ("pg", 1),
     ("range", 1), ("value", 1), ("count", 1), ("hsize", 4), ("bools", 4), ("cols", 2), ("rows", 2),
+    ("past", 4),
 ];
 
 pub const BOOLS: usize = 47;
+pub const PAST: usize = 50;
 
 /// Macroblock columns of a width, or rows of a height, which the Rust does not tell: rounded up.
 pub fn blocks(n: i64) -> i64 {

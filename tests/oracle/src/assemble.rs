@@ -19,6 +19,9 @@ const READER: usize = 296;
 /// The line of bool_decoder.rs that begins the function by which every coded bool is read.
 const READ: usize = 109;
 
+/// The line that begins the one that tells the position, which the parser asks for after the header.
+const POSITION: usize = 199;
+
 /// Which text an edit alters.
 #[derive(Clone, Copy, PartialEq, Eq, PartialOrd, Ord)]
 pub enum In {
@@ -156,28 +159,31 @@ impl Given {
         changed(&self.decoder, &other.decoder) + &changed(&self.parser, &other.parser)
     }
 
-    /// The same with one line more, which counts the bools read.
+    /// The same with two lines more: one counts the bools read, one tells how far past its bytes the decoder is.
     pub fn counted(&self) -> Given {
-        let head: usize = self.decoder.split_inclusive('\n').take(READ).map(str::len).sum();
         let mut decoder = self.decoder.clone();
-        decoder.insert_str(head, "crate::tally::bump();\n");
+        // The later place first, so that the other still stands where it is told.
+        decoder.insert_str(start(&decoder, POSITION + 1), "crate::tally::reach(beyond::past(self));\n");
+        decoder.insert_str(start(&decoder, READ + 1), "crate::tally::bump();\n");
         Given { decoder, ..self.clone() }
     }
 
-    /// All four as modules; `root` is what `crate::` becomes, so that several copies fit in one program.
-    pub fn modules(&self, root: &str, access: &Path) -> String {
+    /// All four as modules, with ours of that folder inside; `root` is what `crate::` becomes, so that several copies fit in one program.
+    pub fn modules(&self, root: &str, folder: &Path) -> String {
+        // A child module may read its parent's private fields.
+        let inside = |name: &str| format!("pub mod {name} {{ include!({:?}); }}\n", folder.join(name).with_extension("rs"));
         let moved = |text: &str| text.replace("use crate::", &format!("use {root}"));
         let mut out = String::new();
         out += "#[allow(dead_code, unused)]\npub mod bitstream_utils {\n";
         out += &moved(&self.reader);
         out += "}\n#[allow(dead_code, unused)]\npub mod codec { pub mod vp8 {\npub mod bool_decoder {\n";
         out += &moved(&self.decoder);
+        out += &inside("beyond");
         out += "}\npub mod probs {\n";
         out += &moved(&self.probs);
         out += "}\npub mod parser {\n";
         out += &moved(&self.parser);
-        // A child module may read its parent's private fields.
-        out += &format!("pub mod access {{ include!({:?}); }}\n}}\n}} }}\n", access);
-        out
+        out += &inside("access");
+        out + "}\n} }\n"
     }
 }

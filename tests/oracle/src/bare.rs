@@ -1,6 +1,6 @@
 //! The bare decoder driven by a script of reads.
 
-use crate::codec::vp8::bool_decoder::{BoolDecoder, BoolDecoderState};
+use crate::codec::vp8::bool_decoder::{beyond, BoolDecoder, BoolDecoderState};
 
 /// One read: kind (0 bool, 1 unsigned literal, 2 signed literal) and its probability or width.
 pub type Read = (u8, u8);
@@ -24,14 +24,15 @@ pub fn line(area: &[u8], reads: &[Read]) -> String {
                 .unwrap_or_else(|why| format!("error {why}")),
             }
         };
-        parts.push(format!("{value},@{}", dec.as_ref().map_or(0, |d| d.pos())));
+        let (pos, past) = dec.as_ref().map_or((0, 0), |d| (d.pos(), beyond::past(d)));
+        parts.push(format!("{value},@{pos}+{past}"));
     }
     let end = match dec {
-        None => "255 0 0 0".to_string(),
+        None => "255 0 0 0 0".to_string(),
         Some(d) => {
-            let pos = d.pos();
+            let (pos, past) = (d.pos(), beyond::past(&d));
             let state: BoolDecoderState = d.into();
-            format!("{} {} {} {pos}", state.range, state.value, state.count)
+            format!("{} {} {} {pos} {past}", state.range, state.value, state.count)
         }
     };
     format!("{} | {end}", parts.join(" "))

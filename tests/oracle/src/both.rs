@@ -33,6 +33,7 @@ pub fn add(out: &mut Fixed, of_the_rust: &[Numbered]) {
     part("both modes: every refusal", refusals(rng));
     part("both modes: drawn frames at which the modes part", drawn(rng, 52, |rng| rng.pick(&MODES)));
     part("the Rust's mode: the same kind of frames", drawn(rng, 12, |_| Mode::Rust));
+    part("each mode: headers that end before, at and far past the end of their bytes", reaches(rng));
 }
 
 /// Every set of flagged probabilities, over others that are kept; coded as the standard reads them, and as the Rust does.
@@ -133,6 +134,52 @@ fn refusals(rng: &mut Rng) -> Vec<Vec<Item>> {
                 let modes = [mode.other(), mode, mode.other(), mode];
                 out.push(frames.into_iter().zip(modes).map(|(f, mode)| (0, mode, f)).collect());
             }
+        }
+    }
+    out
+}
+
+/// A frame of this code alone, which is all of its first partition.
+fn bare(s: &Spec, code: &[u8]) -> Frame {
+    [&s.chunk(code.len() as u32)[..], code].concat()
+}
+
+/// A drawn header and its code without the zeros at the end, after which a reader in that mode stands exactly at its end.
+fn exact(rng: &mut Rng, mode: Mode, key: bool) -> (Spec, Vec<u8>) {
+    loop {
+        let s = Spec { log2: 0, end: 0, ..gen::drawn(rng, key, 0) };
+        let (mut code, _) = s.header();
+        let answer = Engine::new().call(mode, &bare(&s, &code));
+        if answer.refusal != 0 || answer.get("past") != 0 {
+            continue;
+        }
+        let at = answer.get("hsize") as usize;
+        if at % 8 == 0 && code[at / 8..].iter().all(|b| *b == 0) {
+            code.truncate(at / 8);
+            return (s, code);
+        }
+    }
+}
+
+/// Frames whose headers end with their bytes, a byte before and a byte after; headers cut at each byte; and the farthest past the end.
+fn reaches(rng: &mut Rng) -> Vec<Vec<Item>> {
+    let mut out = Vec::new();
+    for mode in MODES {
+        for key in [true, false] {
+            // V is R, and stays so over zeros: every bool is 1, in whatever number. Eight partitions, all of them empty.
+            let area = [&[0xff][..], &[0; 21]].concat();
+            let far = [gen::drawn(rng, key, 0).chunk(1), area].concat();
+            out.push(plain(mode, vec![gen::touch(rng), far, inter(rng)]));
+            for _ in 0..3 {
+                let (s, code) = exact(rng, mode, key);
+                let longer = [&code[..], &[0]].concat();
+                let frames = [&code[..], &code[..code.len() - 1], &longer[..]].map(|c| bare(&s, c));
+                out.push(plain(mode, [&[gen::touch(rng)], &frames[..]].concat()));
+            }
+            let s = Spec { log2: 0, ..gen::drawn(rng, key, 0) };
+            let (code, _) = s.header();
+            let cut: Vec<Frame> = (1..=code.len()).map(|n| bare(&s, &code[..n])).collect();
+            out.extend(cut.chunks(7).map(|some| plain(mode, [&[gen::touch(rng)], some].concat())));
         }
     }
     out

@@ -1,6 +1,6 @@
-//! One record, read by the Rust or by the standard's reader, each run twice: as it is, and with the counting line, which must agree.
+//! One record, read by the Rust or by the standard's reader, each run twice: as it is, and with the lines that count, which must agree.
 
-use crate::answer::{Answer, Mode, BOOLS};
+use crate::answer::{Answer, Mode, BOOLS, PAST};
 use crate::codec::vp8::parser::access as plain;
 use crate::counted::codec::vp8::parser::access as counted;
 use crate::standard::codec::vp8::parser::access as standard;
@@ -31,7 +31,8 @@ impl Engine {
         assert!(answer == other, "the counting copy answers otherwise");
         if answer.refusal == 0 {
             assert!(answer.view == frame.len(), "the frame's view is not the whole frame");
-            answer.numbers[BOOLS] = crate::tally::read();
+            answer.numbers[BOOLS] = crate::tally::bools();
+            answer.numbers[PAST] = crate::tally::past();
         }
         self.kept.clone_from(&answer.kept);
         answer

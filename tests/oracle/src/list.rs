@@ -63,8 +63,11 @@ fn cases() -> Vec<Numbered> {
 fn as_listed(case: u8, mode: Mode, a: &Answer) -> bool {
     let shows = |want: &[(&str, i64)]| a.refusal == 0 && want.iter().all(|(name, v)| a.get(name) == *v);
     let standard = mode == Mode::Standard;
-    // By the standard the position stops at the first partition's end.
-    let stops = |at| !standard || shows(&[("hsize", at)]);
+    // By the standard the position stops at the first partition's end, and what is made up begins there.
+    let ends = |rust: (i64, i64), own: (i64, i64)| {
+        let (at, past) = if standard { own } else { rust };
+        shows(&[("hsize", at), ("past", past)])
+    };
     let segment = if standard { [255; 3] } else { [0; 3] };
     match case {
         0 => true,
@@ -72,16 +75,16 @@ fn as_listed(case: u8, mode: Mode, a: &Answer) -> bool {
         3 => (a.refusal, a.a) == (2, 0x2b019d),
         4 => (a.refusal, a.a, a.b) == (3, 11, 10) && a.kept == Engine::new().kept(),
         5 => a.refusal == 4 && a.kept == Engine::new().kept(),
-        6 => shows(&[("n", 1), ("part0", 1), ("bools", 1086), ("hsize", if standard { 8 } else { 16 }), ("value", 0)]),
-        7 => shows(&[("part0", 1), ("bools", 1157)]) && stops(8),
-        8 => shows(&[("n", 2), ("part0", 0), ("part1", 1)]) && stops(16),
+        6 => shows(&[("n", 1), ("part0", 1), ("bools", 1086), ("value", 0)]) && ends((16, 27), (8, 35)),
+        7 => shows(&[("part0", 1), ("bools", 1157)]) && ends((16, 61), (8, 69)),
+        8 => shows(&[("n", 2), ("part0", 0), ("part1", 1)]) && ends((48, 29), (16, 61)),
         10 if standard => shows(&[("n", 1), ("part0", 1)]),
         9 | 10 => a.refusal == 5,
         11 if standard => {
-            let after = [("bools", 1091), ("range", 194), ("count", 0), ("hsize", 24)];
+            let after = [("bools", 1091), ("range", 194), ("count", 0), ("hsize", 24), ("past", 24)];
             shows(&[("ft", 1), ("lvl", 0)]) && shows(&after) && a.kept[..3] == [1, 1, 0] && a.kept[12..15] == segment
         }
-        11 => shows(&[("ft", 0), ("lvl", 8)]) && a.kept[..3] == [1, 1, 0] && a.kept[12..15] == segment,
+        11 => shows(&[("ft", 0), ("lvl", 8), ("hsize", 32), ("past", 13)]) && a.kept[..3] == [1, 1, 0] && a.kept[12..15] == segment,
         12 => a.refusal == 4 && a.kept[..3] == [1, 0, 0] && a.kept[12..15] == segment,
         _ => false,
     }
@@ -90,12 +93,12 @@ fn as_listed(case: u8, mode: Mode, a: &Answer) -> bool {
 /// The outcome of a worked case of the bare decoder.
 fn line_listed(case: u8) -> Option<&'static str> {
     match case {
-        13 => Some("1,@1 | 254 0 7 1"),
-        14 => Some("1,@1 1,@2 0,@3 | 254 3 5 3"),
-        15 => Some("0,@0 | 128 127 0 0"),
-        16 => Some("0,@7 | 128 0 1 7"),
-        17 => Some("0,@0 | 254 0 0 0"),
-        18 => Some("0,@0 0,@1 0,@2 0,@3 0,@4 0,@5 0,@6 0,@7 0,@8 0,@8 | 128 0 7 8"),
+        13 => Some("1,@1+0 | 254 0 7 1 0"),
+        14 => Some("1,@1+0 1,@2+0 0,@3+0 | 254 3 5 3 0"),
+        15 => Some("0,@0+0 | 128 127 0 0 0"),
+        16 => Some("0,@7+0 | 128 0 1 7 0"),
+        17 => Some("0,@0+0 | 254 0 0 0 0"),
+        18 => Some("0,@0+0 0,@1+0 0,@2+0 0,@3+0 0,@4+0 0,@5+0 0,@6+0 0,@7+0 0,@8+0 0,@8+1 | 128 0 7 8 1"),
         _ => None,
     }
 }
@@ -418,7 +421,7 @@ fn patch(out: &mut Vec<u8>, old: &[u8], new: &[u8]) {
 pub fn frames(sequences: &[Vec<Item>]) -> (Vec<u8>, Stats) {
     let fresh = Engine::new().kept().to_vec();
     assert_eq!(fresh.len(), KEPT);
-    let mut out = b"SBFRAME1".to_vec();
+    let mut out = b"SBFRAME2".to_vec();
     out.extend(&fresh);
     let mut stats = Stats::default();
     let mut total = 0u32;

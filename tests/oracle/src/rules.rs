@@ -63,6 +63,10 @@ impl<'a> Dec<'a> {
         self.doublings.min(8 * self.area.len())
     }
 
+    pub fn past(&self) -> usize {
+        self.doublings.saturating_sub(8 * self.area.len())
+    }
+
     pub fn count(&self) -> usize {
         (8 - self.doublings % 8) % 8
     }
@@ -91,9 +95,9 @@ pub fn line(area: &[u8], reads: &[Read], mut see: impl FnMut(&Dec, Read)) -> Str
             see(&d, (kind, n));
             v.to_string()
         };
-        parts.push(format!("{value},@{}", d.position()));
+        parts.push(format!("{value},@{}+{}", d.position(), d.past()));
     }
-    format!("{} | {} {} {} {}", parts.join(" "), d.range, d.whole, d.count(), d.position())
+    format!("{} | {} {} {} {} {}", parts.join(" "), d.range, d.whole, d.count(), d.position(), d.past())
 }
 
 pub struct Rules {
@@ -270,7 +274,7 @@ impl Rules {
             }
         }
         named.extend([("range", d.range as i64), ("value", d.whole as i64), ("count", d.count() as i64)]);
-        named.extend([("hsize", d.position() as i64), ("bools", d.bools as i64)]);
+        named.extend([("hsize", d.position() as i64), ("bools", d.bools as i64), ("past", d.past() as i64)]);
 
         let table = first + 3 * (n - 1);
         if table > area.len() {

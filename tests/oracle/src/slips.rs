@@ -238,10 +238,9 @@ struct Variant {
 /// The text of a slip's program: both readers with the replay of the lists around them.
 fn program(variant: &Variant, altered: &[Mode]) -> String {
     let here = Path::new(env!("CARGO_MANIFEST_DIR")).join("src");
-    let access = here.join("access.rs");
     let mut out = "extern crate self as log;\n#[macro_export]\nmacro_rules! debug { ($($any:tt)*) => {}; }\n".to_string();
-    out += &variant.rust.modules("crate::", &access);
-    out += &format!("pub mod standard {{\n{}}}\n", variant.standard.modules("crate::standard::", &access));
+    out += &variant.rust.modules("crate::", &here);
+    out += &format!("pub mod standard {{\n{}}}\n", variant.standard.modules("crate::standard::", &here));
     for name in ["answer", "bare", "replay"] {
         out += &format!("#[path = {:?}]\n#[allow(dead_code)]\nmod {name};\n", here.join(name).with_extension("rs"));
     }

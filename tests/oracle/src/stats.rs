@@ -85,7 +85,8 @@ struct Reach {
     motion: BTreeSet<u8>,
     areas: BTreeSet<usize>,
     led: usize,
-    stopped: usize,
+    /// Headers that end exactly where the bytes do, so that nothing is made up.
+    exact: usize,
     /// Headers that are read past the first partition by the Rust, and so told otherwise by the standard.
     beyond: usize,
     /// Accepted frames with the map flag and no feature data, by whether all segment probabilities are then 255.
@@ -138,7 +139,7 @@ impl Reach {
         };
         self.areas.insert(area);
         self.led += (frame[chunk] == 0xff) as usize;
-        self.stopped += (a.get("hsize") as usize == 8 * area) as usize;
+        self.exact += (a.get("hsize") as usize == 8 * area && a.get("past") == 0) as usize;
         let mapped = a.kept[1] == 1 && a.kept[2] == 0;
         if mapped {
             *self.mapped.entry(a.kept[12..15] == [255; 3]).or_default() += 1;
@@ -179,7 +180,7 @@ impl Reach {
             println!("header probabilities coded anew, refresh_entropy_probs {}: {} of {PROBS}", *keep as u8, set.len());
         }
         println!("motion probabilities: {} values", self.motion.len());
-        println!("areas led by FF {}, headers read past the end {}, past the first partition {}", self.led, self.stopped, self.beyond);
+        println!("areas led by FF {}, headers that end where the bytes do {}, past the first partition {}", self.led, self.exact, self.beyond);
         println!("map flag without data, by whether the probabilities are 255 {:?}", self.mapped);
         println!("answered otherwise by the other mode {}, refusal 4 before other bytes, by key {:?}", self.parted, self.emptied);
     }
@@ -266,7 +267,12 @@ impl Reach {
         need(self.motion.contains(&1) && self.motion.contains(&2) && self.motion.contains(&254), "motion updates 0, 1 and 127".into());
         need((1..=40).all(|n| self.areas.contains(&n)), "areas of 1 to 40 bytes".into());
         need(self.led >= 30, "areas led by FF".into());
-        need(self.stopped >= 50, "headers read past the end".into());
+        for k in both {
+            let seen = self.seen("past", k);
+            need(seen.contains(&0) && seen.len() > 40, format!("bits past the end, none and 40 others (key {k}): {}", seen.len()));
+            need(seen.last().is_some_and(|most| *most > 256), format!("more bits past the end than a byte holds (key {k})"));
+        }
+        need(self.exact >= 4, "headers that end where the bytes do".into());
         need(self.beyond >= 50, "headers read past the first partition".into());
         let mapped = |whole: bool| self.mapped.get(&whole).copied().unwrap_or(0);
         need(mapped(true) + mapped(false) >= 10, "the map flag without feature data".into());
