@@ -18,13 +18,13 @@ fn main() {
     for (name, _) in assemble::FILES {
         println!("cargo:rerun-if-changed={}", Path::new(&from).join(name).display());
     }
-    let given = assemble::Given::read(Path::new(&from)).unwrap_or_else(|why| stop(&why));
-    let src = here.join("src");
+    let given = assemble::Given::read(Path::new(&from)).unwrap_or_else(|why| stop(&why)).telling(&here.join("src/beyond.rs"));
+    let access = here.join("src/access.rs");
     let standard = given.standard(&[]);
-    write(&out.join("plain.rs"), &given.modules("crate::", &src));
-    write(&out.join("counted.rs"), &given.counted().modules("crate::counted::", &src));
-    write(&out.join("standard.rs"), &standard.modules("crate::standard::", &src));
-    write(&out.join("standard_counted.rs"), &standard.counted().modules("crate::standard_counted::", &src));
+    write(&out.join("plain.rs"), &given.modules("crate::", &access));
+    write(&out.join("counted.rs"), &given.counted().modules("crate::counted::", &access));
+    write(&out.join("standard.rs"), &standard.modules("crate::standard::", &access));
+    write(&out.join("standard_counted.rs"), &standard.counted().modules("crate::standard_counted::", &access));
 }
 
 fn write(path: &Path, text: &str) {

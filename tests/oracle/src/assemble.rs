@@ -89,6 +89,11 @@ fn digest(text: &str) -> u64 {
     text.bytes().fold(0xcbf2_9ce4_8422_2325, |sum, byte| (sum ^ byte as u64).wrapping_mul(0x0100_0000_01b3))
 }
 
+/// A module of ours. It stands inside one of the Rust's, since a child may read its parent's private fields.
+fn inside(name: &str, file: &Path) -> String {
+    format!("pub mod {name} {{ include!({file:?}); }}\n")
+}
+
 #[derive(Clone)]
 pub struct Given {
     pub reader: String,
@@ -159,7 +164,12 @@ impl Given {
         changed(&self.decoder, &other.decoder) + &changed(&self.parser, &other.parser)
     }
 
-    /// The same with two lines more: one counts the bools read, one tells how far past its bytes the decoder is.
+    /// The same with our module `beyond`, of that file, inside the decoder's.
+    pub fn telling(&self, beyond: &Path) -> Given {
+        Given { decoder: format!("{}{}", self.decoder, inside("beyond", beyond)), ..self.clone() }
+    }
+
+    /// Such a one with two lines more: one counts the bools read, one tells how far past its bytes the decoder is.
     pub fn counted(&self) -> Given {
         let mut decoder = self.decoder.clone();
         // The later place first, so that the other still stands where it is told.
@@ -168,22 +178,19 @@ impl Given {
         Given { decoder, ..self.clone() }
     }
 
-    /// All four as modules, with ours of that folder inside; `root` is what `crate::` becomes, so that several copies fit in one program.
-    pub fn modules(&self, root: &str, folder: &Path) -> String {
-        // A child module may read its parent's private fields.
-        let inside = |name: &str| format!("pub mod {name} {{ include!({:?}); }}\n", folder.join(name).with_extension("rs"));
+    /// All four as modules, `access` inside the parser's; `root` is what `crate::` becomes, so that several copies fit in one program.
+    pub fn modules(&self, root: &str, access: &Path) -> String {
         let moved = |text: &str| text.replace("use crate::", &format!("use {root}"));
         let mut out = String::new();
         out += "#[allow(dead_code, unused)]\npub mod bitstream_utils {\n";
         out += &moved(&self.reader);
         out += "}\n#[allow(dead_code, unused)]\npub mod codec { pub mod vp8 {\npub mod bool_decoder {\n";
         out += &moved(&self.decoder);
-        out += &inside("beyond");
         out += "}\npub mod probs {\n";
         out += &moved(&self.probs);
         out += "}\npub mod parser {\n";
         out += &moved(&self.parser);
-        out += &inside("access");
+        out += &inside("access", access);
         out + "}\n} }\n"
     }
 }

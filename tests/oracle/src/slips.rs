@@ -239,8 +239,9 @@ struct Variant {
 fn program(variant: &Variant, altered: &[Mode]) -> String {
     let here = Path::new(env!("CARGO_MANIFEST_DIR")).join("src");
     let mut out = "extern crate self as log;\n#[macro_export]\nmacro_rules! debug { ($($any:tt)*) => {}; }\n".to_string();
-    out += &variant.rust.modules("crate::", &here);
-    out += &format!("pub mod standard {{\n{}}}\n", variant.standard.modules("crate::standard::", &here));
+    let modules = |given: &Given, root: &str| given.telling(&here.join("beyond.rs")).modules(root, &here.join("access.rs"));
+    out += &modules(&variant.rust, "crate::");
+    out += &format!("pub mod standard {{\n{}}}\n", modules(&variant.standard, "crate::standard::"));
     for name in ["answer", "bare", "replay"] {
         out += &format!("#[path = {:?}]\n#[allow(dead_code)]\nmod {name};\n", here.join(name).with_extension("rs"));
     }
