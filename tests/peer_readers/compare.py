@@ -20,7 +20,7 @@ FEWEST_ALTERED = 2000
 
 # Kinds of frames, by the port's answer; a run in which one of those that must occur has no frame has failed.
 MAP_ALONE = "map flag without feature data"
-PAST = "header past its first partition (header_size is 8 times its length)"
+PAST = "header past its first partition"
 EMPTY_FIRST = "refused 4, with bytes after the empty first partition"
 FF = "header read, and the first partition begins with FF"
 MUST_OCCUR = ("accepted", MAP_ALONE, PAST, EMPTY_FIRST, "refused 3", "refused 4", "refused 5")
@@ -66,7 +66,7 @@ def kinds(case):
             yield MAP_ALONE
         if frames.first_partition(case.frame)[:1] == b"\xff":
             yield FF
-    if outcome == "ok" and int(told["hsize"]) == 8 * int(told["first"]):
+    if outcome == "ok" and int(told["past"]) > 0:
         yield PAST
 
 

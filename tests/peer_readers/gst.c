@@ -1,6 +1,6 @@
 /* GStreamer's codecparsers (Debian: libgstreamer-plugins-bad1.0-dev), asked for its reading of single frames, as rfc.c asks the RFC's
    program. NOT TRIED against a real library: there was none at hand; tests/peers says so, and leaves it out where pkg-config has none.
-   Call: gst < PAIRS (peer.h), or `gst start`. A line is `ok` with the dump's keys but for bools, cols and rows, or `stop`. */
+   Call: gst < PAIRS (peer.h), or `gst start`. A line is `ok` with the dump's keys but for bools, cols, rows and past, or `stop`. */
 #define GST_USE_UNSTABLE_API
 #include <gst/codecparsers/gstvp8parser.h>
 #include "peer.h"

@@ -47,8 +47,8 @@ class Rfc:
     DELTA = "RFC: a filter delta without its flag becomes 0; the port keeps it"
     DROPPED = "RFC: a first partition that begins with FF keeps a bit that reaches 256 (D5)"
     ABOUT = """the program printed in RFC 6386 (section 20), cut out of the RFC's text. Compared: the outcome, every field of the header,
-  the decoder's range, value and count, and the 1,126 kept numbers; header_size and the number of bools by a second build, in which
-  one line counts and the value has two bytes. Expected differences, each checked and counted:
+  the decoder's range, value and count, and the 1,126 kept numbers; header_size, the bits past the end and the number of bools by a
+  second build, in which one line counts and the value has two bytes. Expected differences, each checked and counted:
   - it makes a filter delta without its flag 0; the RFC's prose (9.4), libvpx, the Rust and the port keep it
   - it reads an empty first partition as zeros; the port refuses with 4. It reads one of one byte as zeros too, and is asked again
     with a zero after that byte
@@ -133,7 +133,8 @@ class Rfc:
         self.own_sizes(case, line, sizes)
         want = {key: told[key] for key in HEADER}
         want |= {"cols": told["cols"], "rows": told["rows"], "bools": told["bools"]}
-        want["hsize"] = str(min(int(told["doublings"]), 8 * c.first))
+        doublings, bits = int(told["doublings"]), 8 * c.first
+        want |= {"hsize": str(min(doublings, bits)), "past": str(max(doublings - bits, 0))}
         want["st"] = self.kept(case, told, c.key)
         if reopened:
             want |= self.by_the_chunk(c, sizes)
