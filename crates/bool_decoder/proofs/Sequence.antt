@@ -1,6 +1,6 @@
 -- The promise: whatever is read over one area, in whatever order, past its end too, values, position, bits past the end, snapshot and
--- count are the definition's. A walk is any sequence of reads, each of which met its contract and may depend on what came before. By induction on the
--- walk.
+-- count are the definition's. A walk is any sequence of reads, each of which met its contract and may depend on what came before. By
+-- induction on the walk.
 use mathlib.Core.Path.{_≡_, sym, ap, _∙_}
 use mathlib.Core.List.{List}
 use Prim.Native.Nat.{ℕ, _+_}

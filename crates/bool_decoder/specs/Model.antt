@@ -29,7 +29,7 @@ pub record Ran {A : Type 0} (m : Rd A) (area : List ℕ) (d : BoolDecoder) (a : 
 abbrev pub pastOf : List ℕ → BoolDecoder → ℕ
 pastOf area d = past (bits area) (stateOf area d)
 
--- the same, where the answer carries those bits too: a sub-header's
+-- reads whose answer carries those bits too, q of them: a sub-header, or a read of the bare decoder
 pub record Passed {A : Type 0} (m : Rd A) (area : List ℕ) (d : BoolDecoder) (a : A) (q : ℕ) (d' : BoolDecoder) (k : ℕ) : Type 0 where
   pub ran : Ran m area d a d' k
   pub past : q ≡ pastOf area d'

@@ -25,7 +25,7 @@ fn scripts(out: &mut [u8]) {
     }
 }
 
-// The longest line, of 1,024 reads, has under 20,000 bytes.
+// The longest line, of 1,024 reads, has under 26,000 bytes.
 fn main() {
     let mut out = [0u8; 32768];
     scripts(&mut out);

@@ -20,7 +20,8 @@ made : {A : Type 0} (f : A → Value) (m : Rd A) (l : ℕ) (s : State) {a : A} {
 unfolding make run
 made {A} f m l s e = run-bind m (λ x. ret (f x)) l s ∙ ap (λ (o : Out A). out (f (o .got)) (o .then)) e
 
-pub allowed : {A : Type 0} (f : A → Value) (m : Rd A) {area : List ℕ} {d : BoolDecoder} {width wanted : ℕ} {a : A} {q : ℕ} {d' : BoolDecoder}
+pub allowed : {A : Type 0} (f : A → Value) (m : Rd A) {area : List ℕ} {d : BoolDecoder} {width wanted : ℕ} {a : A} {q : ℕ}
+    {d' : BoolDecoder}
     → Allows m area d width wanted a q d' → Gives area (record { width = width; wanted = wanted; tree = make f m }) d (f a) q d'
 unfolding answered
 allowed f m {area} {d} g = record {

@@ -94,7 +94,8 @@ pub fn update_segmentation(
     mode: Mode,
 ) -> SegmentationRead
     requires { ⌜ Good (now area) dec 99 ⌝ }
-    ensures { λ r. ⌜ Passed (make (λ c. segmented c seg) (segments mode)) (now (area .entry)) dec (r .segmentation) (r .past) (r .dec) 99 ⌝ }
+    ensures { λ r. ⌜ Passed (make (λ c. segmented c seg) (segments mode))
+        (now (area .entry)) dec (r .segmentation) (r .past) (r .dec) 99 ⌝ }
 {
     let enabled = dec.read_flag(area);
     let map = flag_if(area, enabled.dec, enabled.bit);

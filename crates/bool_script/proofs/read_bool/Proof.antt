@@ -22,9 +22,10 @@ refused-requires c κs = search needs
 
 returns-2 : tie.Need-returns-2
 returns-2 c =
-    let found = c .before in
-    let called = found .before .before .before in
-    rw (c .refused .ensures) (refused _ (called .before .before .pre) (rw (found .before .number .given .1) at (called .read-bool-with-prob .ensures)))
+    let found = c .before .before in
+    let called = found .before .before in
+    rw (c .refused .ensures)
+    (refused _ (called .before .before .pre) (rw (found .number .given .1) at (called .read-bool-with-prob .ensures)))
 
 pub read-bool-spec : {M : Type 1} → statement M
 read-bool-spec =

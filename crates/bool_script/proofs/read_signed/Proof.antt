@@ -27,9 +27,10 @@ refused-requires c κs = search needs
 
 returns-2 : tie.Need-returns-2
 returns-2 c =
-    let found = c .before in
-    let called = found .before .before .before in
-    rw (c .refused .ensures) (refused _ (called .before .before .pre) (rw (found .before .number .given .1) at (called .read-sint .ensures)))
+    let found = c .before .before in
+    let called = found .before .before in
+    rw (c .refused .ensures)
+    (refused _ (called .before .before .pre) (rw (found .number .given .1) at (called .read-sint .ensures)))
 
 pub read-signed-spec : {M : Type 1} → statement M
 read-signed-spec =
