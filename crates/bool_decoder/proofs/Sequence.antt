@@ -6,6 +6,8 @@ use mathlib.Core.List.{List}
 use Prim.Native.Nat.{ℕ, _+_}
 use Rattle.rfc6386.specs.Decoder.{State, Out, bits, start, whole, countOf, position, past}
 use Rattle.rfc6386.specs.Reads.{Rd, ret, _>>=_, run}
+use Rattle.rfc6386.specs.Reach.{Reach}
+use Rattle.rfc6386.proofs.Reach.{state-reach}
 use Rattle.bool_decoder.specs.Window.{stateOf, Over}
 use Rattle.bool_decoder.specs.Model.{out, Ran, pastOf, Fresh, Seen}
 use Rattle.bool_decoder.specs.declared.BoolDecoder.{BoolDecoder}
@@ -52,3 +54,9 @@ promise {A} {m} {area} {d} {a} {d'} f w at beyond see =
       whole-v = see .value ∙ ap (whole (bits area)) s;
       count = see .count ∙ ap countOf s;
     }
+
+-- so the two numbers that code tells are together the doublings, and either of them tells whether the end was passed
+pub promise-reach : {A : Type 0} {m : Rd A} {area : List ℕ} {a : A} {d : BoolDecoder} {at q : ℕ} {seen : BoolDecoderState}
+    → Agrees m area a d at q seen → Reach (bits area) (run m (bits area) (start area) .then .c) at q
+promise-reach {m = m} {area = area} p =
+    rw (p .place, p .past-end) (state-reach (bits area) (run m (bits area) (start area) .then))
