@@ -2,7 +2,7 @@
 // Every function answers at every place: a byte past the end counts as 0.
 ghost use mathlib.Core.Path.{_≡_};
 ghost use lib.ListN.{getD};
-ghost use Rattle.rfc6386.specs.Bytes.{le2, le3};
+ghost use Rattle.rfc6386.specs.Bytes.{le2, le3, le4};
 
 // The byte at a place.
 pub fn byte_at(bytes: &[u8], at: usize) -> u8
@@ -28,6 +28,17 @@ pub fn read_le3(bytes: &[u8], at: usize) -> u32
 {
     if at < bytes.len() {
         read_le2(bytes, at) + (byte_at(bytes, at + 2) as u32) * 65536
+    } else {
+        0
+    }
+}
+
+// Four bytes as a number: the size of a recorded frame.
+pub fn read_le4(bytes: &[u8], at: usize) -> u32
+    ensures { λ r. ⌜ r ≡ le4 (now (bytes .entry)) at ⌝ }
+{
+    if at < bytes.len() {
+        read_le3(bytes, at) + (byte_at(bytes, at + 3) as u32) * 16777216
     } else {
         0
     }

@@ -2,4 +2,5 @@
 pub mod Puts
 pub mod Spelling
 pub mod Templates
+pub mod Lined
 pub mod Numerals

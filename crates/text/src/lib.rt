@@ -2,13 +2,15 @@
 // A text is the first `at` bytes of `out`. Each writer puts its bytes there, as far as the buffer goes, and answers the new count.
 // No public function has a premise.
 ghost use mathlib.Core.Path.{_≡_};
-ghost use mathlib.Core.List.{List, _∷_};
+ghost use mathlib.Core.Bool.{cond};
+ghost use mathlib.Core.List.{List, [], _∷_, _++_};
 ghost use Prim.Native.Nat.{ℕ, _<_, _+_};
 ghost use lib.ListN.{take as List·take, drop};
 ghost use lib.IntN.{natAbs};
 ghost use Rattle.text.specs.Text.{text, put, puts};
 ghost use Rattle.text.specs.Digits.{glyph as Digits·glyph, hexOf, decimalOf, signedOf};
 ghost use Rattle.text.specs.Template.{filled};
+ghost use Rattle.text.specs.Lines.{numbered};
 
 // One byte.
 pub fn byte(out: &mut [u8], at: usize, b: u8) -> usize
@@ -117,6 +119,33 @@ pub fn fill(out: &mut [u8], at: usize, template: &[u8], numbers: &[u32]) -> usiz
         let filling = fill_byte(out, to, template[i], numbers, next);
         to = filling.at;
         next = filling.next;
+        i += 1;
+    }
+    to
+}
+
+// The number and a space, where a line begins.
+fn line_head(out: &mut [u8], at: usize, n: u64, begins: bool) -> usize
+    ensures { λ r. ⌜ text (now (out .exit)) r ≡ puts (text (now (out .entry)) at) (cond begins (decimalOf n ++ (32 ∷ [])) []) ⌝ }
+{
+    if begins {
+        let to = decimal(out, at, n);
+        return byte(out, to, b' ');
+    }
+    at
+}
+
+// Lines, each with the number and a space in front.
+pub fn number_lines(out: &mut [u8], at: usize, n: u64, lines: &[u8]) -> usize
+    ensures { λ r. ⌜ text (now (out .exit)) r ≡ puts (text (now (out .entry)) at) (numbered n (now (lines .entry))) ⌝ }
+{
+    let mut to = at;
+    let mut begins = true;
+    let mut i = 0;
+    while i < lines.len() {
+        let head = line_head(out, to, n, begins);
+        to = byte(out, head, lines[i]);
+        begins = lines[i] == b'\n';
         i += 1;
     }
     to

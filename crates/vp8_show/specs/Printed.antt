@@ -10,6 +10,7 @@ use Rattle.vp8_records.specs.declared.Parsed.{Parsed}
 use Rattle.vp8_records.specs.declared.Peeked.{Peeked}
 use Rattle.vp8_records.specs.Outcome.{numberOf}
 use Rattle.text.specs.Template.{ascii, filled}
+use Rattle.text.specs.Lines.{numbered}
 use Rattle.vp8_flat.specs.Bytes.{bitOf}
 use Rattle.vp8_flat.specs.Numbers.{partitionCount}
 use Rattle.vp8_show.specs.Refusal.{refusalText, lookText}
@@ -49,6 +50,10 @@ unfoldable pub printed : Parsed → List ℕ
 printed p =
     cond (eqb (numberOf (p .outcome)) 0) (acceptedText (p .header))
     (refusalText (ascii "refused ") (ascii " code ") (ascii " end ") (ascii " length ") (p .outcome) ++ ascii "\n")
+
+-- the same, of which 1,024 bytes are taken, with an index and a space in front of each line
+unfoldable pub printedAt : ℕ → Parsed → List ℕ
+printedAt index p = numbered index (take 1024 (printed p))
 
 -- what the looking program prints
 unfoldable pub printedLook : Peeked → List ℕ

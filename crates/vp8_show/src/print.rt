@@ -12,7 +12,7 @@ ghost use Prim.Native.Nat.{_-_, _*_, _≤_};
 ghost use lib.ListN.{take};
 ghost use Rattle.text.specs.Text.{text, puts};
 ghost use Rattle.vp8_flat.specs.Numbers.{partitionCount};
-ghost use Rattle.vp8_show.specs.Printed.{frameLine, partitionLine, partitionLines, firstStart, acceptedText, printed, printedLook};
+ghost use Rattle.vp8_show.specs.Printed.{frameLine, partitionLine, partitionLines, firstStart, acceptedText, printed, printedAt, printedLook};
 
 // The first line: what the frame is.
 fn frame_line(out: &mut [u8], at: usize, h: Header) -> usize
@@ -110,6 +110,22 @@ pub fn answer(out: &mut [u8], at: usize, parsed: Parsed) -> usize
 pub fn tell(parsed: Parsed) {
     let mut out = [0u8; 1024];
     let end = answer(&mut out, 0, parsed);
+    lines::show(&out, end);
+}
+
+// The lines of an answer, of which there are under 1,024 bytes, each with an index and a space in front; under 2,048 bytes.
+pub fn numbered(out: &mut [u8], at: usize, index: u64, parsed: Parsed) -> usize
+    ensures { λ r. ⌜ text (now (out .exit)) r ≡ puts (text (now (out .entry)) at) (printedAt index parsed) ⌝ }
+{
+    let mut lines = [0u8; 1024];
+    let end = answer(&mut lines, 0, parsed);
+    text::number_lines(out, at, index, text::part(&lines, end))
+}
+
+// Those, on standard output.
+pub fn tell_numbered(index: u64, parsed: Parsed) {
+    let mut out = [0u8; 2048];
+    let end = numbered(&mut out, 0, index, parsed);
     lines::show(&out, end);
 }
 

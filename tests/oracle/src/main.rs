@@ -38,6 +38,7 @@ mod gen;
 mod ivf;
 mod list;
 mod look;
+mod reel;
 mod replay;
 mod rng;
 mod rules;
@@ -55,10 +56,14 @@ use std::path::PathBuf;
 const USAGE: &str = "usage: tests/oracle/run COMMAND
   dump                       answers to frame records on standard input, one line a frame
   bools                      answers to scripts on standard input, one line a script
+  ivf [--standard]           what is printed of a recording on standard input
+  lists                      what a walk lists of each recording on standard input, into lists of given lengths
   check                      holds the Rust and the standard's reader against the rules on frame records on standard input
   standard                   what the standard's reader has otherwise than the Rust
   gen frames --seed S --count N [--streams DIR] [--parting]   writes frame records; half at which the modes part
   gen bools --seed S --count N                                writes scripts
+  gen ivf --seed S --count N --into DIR                       writes recordings, most of them damaged, into a folder
+  gen lists --seed S --count N                                writes recordings with lengths of lists
   modes standard             frame records again, all in the standard's mode
   modes mixed SEED           frame records again, with the mode drawn from frame to frame
   looks [--prefixes]         frame records again, with a look at each frame before it; and at its first 0 to 12 bytes
@@ -342,6 +347,25 @@ fn bools() {
     }
 }
 
+/// A recording on standard input.
+fn ivf_lines(mode: Mode) {
+    let mut file = Vec::new();
+    if std::io::stdin().lock().read_to_end(&mut file).is_err() {
+        stop(2, "cannot read standard input");
+    }
+    emit(reel::told(&file, mode).as_bytes());
+}
+
+/// Recordings on standard input, each after two lengths of lists and its own.
+fn lists() {
+    let mut input = std::io::stdin().lock();
+    while let Some(lengths) = take(&mut input, 2) {
+        let n = length(&mut input).unwrap_or_else(|_| stop(1, "cut short"));
+        let file = take(&mut input, n).unwrap_or_else(|| stop(1, "cut short"));
+        emit(reel::listed(&file, lengths[0] as usize, lengths[1] as usize).as_bytes());
+    }
+}
+
 /// The value after an option, or none.
 fn option(arguments: &[String], name: &str) -> Option<String> {
     let at = arguments.iter().position(|a| a == name)?;
@@ -376,6 +400,27 @@ fn gen_bools(arguments: &[String]) {
     for _ in 0..whole_number(arguments, "--count") {
         let (area, reads) = gen::script(rng);
         emit(&list::script_record(&area, &reads));
+    }
+}
+
+/// The recordings, of which drawn ones are made.
+fn streams() -> Vec<gen::Stream> {
+    gen::streams(&folder()).unwrap_or_else(|why| stop(2, &why))
+}
+
+fn gen_ivf(arguments: &[String]) {
+    let into = PathBuf::from(option(arguments, "--into").unwrap_or_else(|| stop(2, USAGE)));
+    let (rng, streams) = (&mut Rng::new(whole_number(arguments, "--seed")), streams());
+    for i in 0..whole_number(arguments, "--count") {
+        let file = reel::drawn(rng, &streams, reel::LONGEST);
+        std::fs::write(into.join(format!("{i}.ivf")), file).unwrap_or_else(|why| stop(2, &why.to_string()));
+    }
+}
+
+fn gen_lists(arguments: &[String]) {
+    let (rng, streams) = (&mut Rng::new(whole_number(arguments, "--seed")), streams());
+    for _ in 0..whole_number(arguments, "--count") {
+        emit(&reel::list_record(rng, &streams));
     }
 }
 
@@ -433,6 +478,11 @@ fn main() {
         ["check"] => check(),
         ["gen", "frames", ..] => gen_frames(&arguments[2..]),
         ["gen", "bools", ..] => gen_bools(&arguments[2..]),
+        ["gen", "ivf", ..] => gen_ivf(&arguments[2..]),
+        ["gen", "lists", ..] => gen_lists(&arguments[2..]),
+        ["ivf"] => ivf_lines(Mode::Rust),
+        ["ivf", "--standard"] => ivf_lines(Mode::Standard),
+        ["lists"] => lists(),
         ["standard"] => standard(),
         ["modes", "standard"] => {
             emit(&STANDARD.to_le_bytes());
