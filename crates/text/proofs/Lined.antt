@@ -2,7 +2,7 @@
 use Prim.Native.Nat.{ℕ, _+_, _≤_, _<_}
 use native.Mathlib.Numerals.{add-one}
 use mathlib.Core.Path.{_≡_, ap, sym, _∙_}
-use mathlib.Core.Bool.{Bool, cond}
+use mathlib.Core.Bool.{Bool, true, false, cond}
 use mathlib.Core.List.{List, [], _∷_, _++_}
 use lib.Dec.{eqb}
 use lib.ListN.{length, getD, drop, drop-of-length-le}
@@ -10,7 +10,15 @@ use lib.Seq.{drop-cons}
 use Rattle.text.specs.Text.{Text, put, puts}
 use Rattle.text.specs.Digits.{decimalOf}
 use Rattle.text.specs.Lines.{numberedFrom}
-use Rattle.text.proofs.Puts.{puts-append, puts-cons, puts-nil}
+use Rattle.text.proofs.Puts.{puts-append, puts-cons, puts-nil, then-one}
+
+-- what stands in front of a byte: the number and a space, or nothing
+pub head-put : (t u v : Text) (n : ℕ) (begins : Bool) → begins ≡ true → u ≡ puts t (decimalOf n) → v ≡ put u 32
+    → v ≡ puts t (cond begins (decimalOf n ++ (32 ∷ [])) [])
+head-put t u v n begins b e d = rw b (then-one t u v (decimalOf n) 32 e d)
+
+pub head-none : (t : Text) (n : ℕ) (begins : Bool) → begins ≡ false → t ≡ puts t (cond begins (decimalOf n ++ (32 ∷ [])) [])
+head-none t n begins b = rw b (sym (puts-nil t))
 
 -- one byte, after what stands in front of a line where it begins one
 number-step : (t u v : Text) (n b : ℕ) (begins : Bool) (cs : List ℕ) → u ≡ puts t (cond begins (decimalOf n ++ (32 ∷ [])) []) → v ≡ put u b

@@ -1,13 +1,14 @@
 -- Laws of a text that grows: a byte is put or has no room, pieces one after the other are one piece, a loop over a piece puts one byte
 -- a turn; and where the text fits, it is the old text and the piece. By induction on the piece.
-use Prim.Native.Nat.{ℕ, suc, _+_, _/_, _%_, _≤_, _<_}
+use Prim.Native.Nat.{ℕ, suc, _+_, _-_, _/_, _%_, _≤_, _<_}
 use native.Mathlib.Omega.{arith}
+use native.Mathlib.Decide.{decLe}
 use native.Mathlib.Nat.{add-zero}
 use native.Mathlib.Numerals.{add-one}
 use mathlib.Core.Path.{_≡_, refl, ap, sym, _∙_}
 use mathlib.Core.List.{List, [], _∷_, _++_, append-nil}
 use lib.ListN.{length, getD, take, set, length-set}
-use lib.Seq.{take-suc, take-suc-set, append-snoc}
+use lib.Seq.{take-nil, take-suc, take-suc-set, append-snoc}
 use borrow.Author.Tests.{lt-ltb, le-ltb}
 use Rattle.text.specs.Text.{Text, text, put, puts}
 use Rattle.text.specs.Digits.{glyph, hexOf}
@@ -67,6 +68,28 @@ fits buffer n (x ∷ xs) h =
     let front : take (n + 1) (set buffer n x) ≡ take n buffer ++ (x ∷ []) = rw (add-one n) (take-suc-set buffer n x (omega arith)) in
     let old : take n buffer ++ (x ∷ []) ++ xs ≡ take n buffer ++ (x ∷ xs) = append-snoc (take n buffer) x xs in
     rw (e, puts-cons (text buffer n) x xs, ← step) (more .0 ∙ rw front old, more .1)
+
+-- what stands in the text, whether there is room for all of the piece or not
+abbrev Stands : List ℕ → List ℕ → ℕ → Type 0
+Stands xs buffer n =
+    take (puts (text buffer n) xs .count) (puts (text buffer n) xs .buffer) ≡ take n buffer ++ take (length buffer - n) xs
+
+stands-more : (x : ℕ) (xs buffer : List ℕ) (n : ℕ) → (suc n ≤ length buffer → Stands xs (set buffer n x) (n + 1)) → Stands xs buffer n
+    → Dec (suc n ≤ length buffer) → Stands (x ∷ xs) buffer n
+stands-more x xs buffer n next full (yes g) =
+    let left : length buffer - n ≡ suc (length buffer - (n + 1)) = omega arith in
+    let front : take (n + 1) (set buffer n x) ≡ take n buffer ++ (x ∷ []) = rw (add-one n) (take-suc-set buffer n x g) in
+    rw (puts-cons (text buffer n) x xs, ← put-room buffer n x g, left)
+    (next g ∙ rw (front, length-set buffer n x) (append-snoc (take n buffer) x (take (length buffer - (n + 1)) xs)))
+stands-more x xs buffer n next full (no g) =
+    let none : length buffer - n ≡ 0 = omega arith in
+    rw (puts-cons (text buffer n) x xs, ← put-full buffer n x (omega arith), none) (rw none at full)
+
+pub stands : (xs buffer : List ℕ) (n : ℕ) → n ≤ length buffer → Stands xs buffer n
+stands [] buffer n h = rw (puts-nil (text buffer n), take-nil {A = ℕ} (length buffer - n)) (sym (append-nil (take n buffer)))
+stands (x ∷ xs) buffer n h =
+    stands-more x xs buffer n (λ g. stands xs (set buffer n x) (n + 1) (rw (length-set buffer n x) (omega (arith, g)))) (stands xs buffer n h)
+    (decLe (suc n) (length buffer))
 
 -- one byte is a piece
 pub one : (t : Text) (out : List ℕ) (to b : ℕ) → text out to ≡ put t b → text out to ≡ puts t (b ∷ [])

@@ -31,7 +31,7 @@ pub plays-only : {md : Mode} {p : Parser} {f : List ℕ} {r r′ : Played} {os o
     → Plays md p f r os os′ ls ls′ → Plays md p f r′ os os″ ls ls″ → (r ≡ r′) × (os′ ≡ os″) × (ls′ ≡ ls″)
 plays-only a b =
     let same = lists-only (a .listed) (b .listed) in
-    ((λ i. record { walked = same .0 i; parser = (a .parser ∙ sym (b .parser)) i }), same .1 .0, same .1 .1)
+    ((λ i. record { walked = same .0 i; parser = (a .parser ∙ sym (b .parser)) i }), same .1, same .2)
 
 -- a file without the header of a recording leaves the record as it was
 pub plays-nothing : {md : Mode} {p : Parser} {f : List ℕ} {r : Played} {os os′ ls ls′ : List ℕ}

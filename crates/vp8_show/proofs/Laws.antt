@@ -1,6 +1,6 @@
 -- The lines of the partitions one by one, in terms of what is left; the words of a refusal by its number; and two examples of the text,
 -- by computation.
-use Prim.Native.Nat.{ℕ, suc, _+_, _≤_, _<_}
+use Prim.Native.Nat.{ℕ, suc, _+_, _-_, _≤_, _<_}
 use native.Mathlib.Omega.{arith}
 use native.Mathlib.Numerals.{add-one}
 use mathlib.Core.Path.{_≡_, refl, ap, sym, _∙_}
@@ -18,7 +18,7 @@ use borrow.Author.Tests.{eq-eqb, ne-eqb}
 use Rattle.vp8_records.specs.declared.Header.{Header}
 use Rattle.vp8_records.specs.declared.Parsed.{Parsed}
 use Rattle.vp8_records.specs.declared.Outcome.{Outcome}
-use Rattle.vp8_records.specs.declared.Outcome.the-variants.{ChunkTooShort, InvalidStartCode, InvalidPartitionSize}
+use Rattle.vp8_records.specs.declared.Outcome.the-variants.{Accepted, ChunkTooShort, InvalidStartCode, InvalidPartitionSize}
 use Rattle.vp8_records.specs.declared.Look.{Look}
 use Rattle.vp8_records.specs.declared.Peeked.{Peeked}
 use Rattle.vp8_records.specs.declared.Peeked.the-variants.{Seen, TooShort, StartCode}
@@ -26,14 +26,15 @@ use Rattle.vp8_records.proofs.Peeked.{the-type}
 use Rattle.vp8_records.specs.Outcome.{numberOf}
 use Rattle.vp8_records.specs.Start.{fresh, blank}
 use Rattle.rfc6386.specs.Call.{answer}
-use Rattle.text.specs.Text.{Text, puts}
+use Rattle.text.specs.Text.{Text, text, puts}
 use Rattle.text.specs.Digits.{hexOf, digitsOf, decimalOf, signedOf}
 use Rattle.text.specs.Template.{ascii, filled}
-use Rattle.text.proofs.Puts.{puts-append, puts-nil}
+use Rattle.text.specs.Lines.{numbered, numberedFrom}
+use Rattle.text.proofs.Puts.{puts-append, puts-nil, stands}
 use Rattle.vp8_flat.specs.declared.header.Carried.{Carried}
 use Rattle.vp8_flat.specs.Numbers.{shapeOf, lookOf, carriedOf, partitionCount}
 use Rattle.vp8_show.specs.Refusal.{carriedText, refusalText, lookText}
-use Rattle.vp8_show.specs.Printed.{frameLine, partitionLine, partitionLines, firstStart, acceptedText, printed, printedLook}
+use Rattle.vp8_show.specs.Printed.{frameLine, partitionLine, partitionLines, firstStart, acceptedText, printed, printedAt, printedLook}
 use Rattle.vp8_show.specs.Dumped.{deltaText, headerText, answerText, dumpedLook}
 
 -- a turn of the loop over the first `count` sizes, and its end
@@ -166,6 +167,16 @@ delta-is t u z f e = e ∙ ap (λ (y : ℤ). puts t (deltaText y)) (toZ-ofZ {w =
 pub hex-is : (t u : Text) (name xs ys : List ℕ) → u ≡ puts t (name ++ hexOf xs) → xs ≡ ys → u ≡ puts t (name ++ hexOf ys)
 hex-is t u name xs ys e d = e ∙ ap (λ (l : List ℕ). puts t (name ++ hexOf l)) d
 
+-- lines in an empty buffer of 1,024 bytes, and from there to the text, each with a number in front
+pub numbered-lines : (t u : Text) (empty own lines : List ℕ) (end index : ℕ) (p : Parsed) → length empty ≡ 1024
+    → text own end ≡ puts (text empty 0) (printed p) → lines ≡ take end own → u ≡ puts t (numbered index lines) → u ≡ puts t (printedAt index p)
+unfolding printedAt
+numbered-lines t u empty own lines end index p l e q w =
+    let all : length empty - 0 ≡ 1024 = omega (arith, l) in
+    let told : take end own ≡ take (length empty - 0) (printed p) =
+      ap (λ (x : Text). take (x .count) (x .buffer)) e ∙ stands (printed p) empty 0 (omega arith) in
+    w ∙ ap (λ (k : List ℕ). puts t (numbered index k)) (q ∙ told ∙ ap (λ (n : ℕ). take n (printed p)) all)
+
 -- examples, by computation
 look-example : printedLook (Seen (record {
   «key_frame» = true;
@@ -188,3 +199,9 @@ refusal-example = refl
 line-example : partitionLines 0 11 (1 ∷ []) ≡ ascii "part 0 start 11 length 1\n"
 unfolding partitionLines partitionLine filled decimalOf digitsOf
 line-example = refl
+
+-- the index in front of part lines too
+numbered-example : printedAt 70 (answer Accepted blank fresh)
+    ≡ ascii "70 accepted key 0 version 0 show 0 chunk 0 first 0 size 0x0 parts 1 bools 0\n70 part 0 start 0 length 0\n"
+unfolding printedAt printed blank fresh acceptedText frameLine partitionLines partitionLine filled decimalOf digitsOf numberedFrom
+numbered-example = refl

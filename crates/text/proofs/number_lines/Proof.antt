@@ -1,55 +1,61 @@
+-- At each turn, what is put and what is left of the lines make the whole: `number-turn` of `Lined`.
+use Prim.Native.Nat.{_≤_, _-_}
+use mathlib.Core.Path.{_≡_, refl, _∙_}
+use native.Mathlib.Omega.{arith}
+use lib.ListN.{length, drop}
+use borrow.Author.Needs.{needs}
+use Rattle.text.specs.Text.{text, puts}
+use Rattle.text.specs.Lines.{numberedFrom, numbered}
+use Rattle.text.proofs.Lined.{number-turn, number-end}
 use Rattle.text.proofs.number_lines.Statement.{statement}
 use Rattle.text.proofs.number_lines.Tie as tie
-use Rattle.text.proofs.number_lines.Reads as reads
-use Rattle.text.proofs.number_lines.Lts as lts
-use Rattle.text.proofs.byte.Reads as byte-reads
-use Rattle.text.proofs.line_head.Reads as line-head-reads
 
 abbrev Inv-loop : tie.InvT-loop
-Inv-loop out₀ at n lines to₀ begins₀ i₀ out to begins i = ?
+Inv-loop out₀ at n lines to₀ begins₀ i₀ out to begins i =
+    (i ≤ length lines)
+    × (length out ≡ length out₀)
+    × (puts (text out to) (numberedFrom n begins (drop i lines)) ≡ puts (text out₀ at) (numbered n lines))
 
 abbrev μ-loop : tie.MeasureT-loop
-μ-loop out₀ at n lines to₀ begins₀ i₀ out to begins i = ?
+μ-loop out₀ at n lines to₀ begins₀ i₀ out to begins i = length lines - i
 
--- src/lib.rt:145:5
 loop-holds : tie.Need-loop-holds Inv-loop μ-loop
-loop-holds c = ?
+loop-holds c = (omega arith, refl, refl)
 
--- src/lib.rt:146:13
 line-head-requires : tie.Need-line-head-requires Inv-loop μ-loop
-line-head-requires c κs = ?
+line-head-requires c κs = search needs
 
--- src/lib.rt:147:30
 shared-slice-read-byte : tie.Need-shared-slice-read-byte Inv-loop μ-loop
-shared-slice-read-byte c = ?
+shared-slice-read-byte c = search needs
 
--- src/lib.rt:147:9
 byte-requires : tie.Need-byte-requires Inv-loop μ-loop
-byte-requires c κs = ?
+byte-requires c κs = search needs
 
--- src/lib.rt:148:18
 shared-slice-read-begins : tie.Need-shared-slice-read-begins Inv-loop μ-loop
-shared-slice-read-begins c = ?
+shared-slice-read-begins c = search needs
 
--- src/lib.rt:149:9
 add-i : tie.Need-add-i Inv-loop μ-loop
-add-i c = ?
+add-i c = search needs
 
--- src/lib.rt:145:5
 loop-less : tie.Need-loop-less Inv-loop μ-loop
-loop-less c = ?
+loop-less c = search needs
 
--- src/lib.rt:145:5
 loop-again : tie.Need-loop-again Inv-loop μ-loop
-loop-again c = ?
+loop-again c =
+    let at-byte = c .before .before .before in
+    let at-head = at-byte .before .before .before .before .before in
+    let at-test = at-head .before .before in
+    let inv = at-test .before .loop .inv in (
+      omega arith,
+      at-byte .byte .kept .0 ∙ at-head .line-head .kept .0 ∙ inv .1,
+      number-turn _ _ _ _ _ _ _ _ (at-test .loop-test .taken) (at-head .line-head .ensures) (at-byte .byte .ensures) (inv .2),
+    )
 
--- src/lib.rt:139:1
 same-length : tie.Need-same-length Inv-loop μ-loop
-same-length c = ?
+same-length c = search needs
 
--- src/lib.rt:139:1
 returns : tie.Need-returns Inv-loop μ-loop
-returns c = ?
+returns c = number-end _ _ _ _ _ _ (c .loop-test .left) (c .before .loop .inv .2)
 
 pub number-lines-spec : {M : Type 1} → statement M
 number-lines-spec =

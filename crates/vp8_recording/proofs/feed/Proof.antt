@@ -3,19 +3,19 @@ use Prim.Native.Nat.{_-_}
 use native.Mathlib.Omega.{arith}
 use mathlib.Core.Path.{ap, _∙_}
 use borrow.Author.Needs.{needs}
-use Rattle.stub.specs.Call.{call}
+use Rattle.rfc6386.specs.Call.{call}
 use Rattle.vp8_recording.proofs.Feeds.{Turn, begin, turn, end}
 use Rattle.vp8_recording.proofs.feed.Statement.{statement}
 use Rattle.vp8_recording.proofs.feed.Tie as tie
 
 abbrev Inv-loop : tie.InvT-loop
-Inv-loop file offsets lengths count state₀ i₀ state i = Turn file offsets lengths count state₀ state i
+Inv-loop file offsets lengths count mode state₀ i₀ state i = Turn mode file offsets lengths count state₀ state i
 
 abbrev μ-loop : tie.MeasureT-loop
-μ-loop file offsets lengths count state₀ i₀ state i = count - i
+μ-loop file offsets lengths count mode state₀ i₀ state i = count - i
 
 loop-holds : tie.Need-loop-holds Inv-loop μ-loop
-loop-holds c = begin _ _ _ _ _
+loop-holds c = begin _ _ _ _ _ _
 
 mul-frame-at : tie.Need-mul-frame-at Inv-loop μ-loop
 mul-frame-at c = search needs
@@ -32,8 +32,8 @@ shared-slice-read-frame-at-2 c = search needs
 frame-at-requires : tie.Need-frame-at-requires Inv-loop μ-loop
 frame-at-requires c κs = search needs
 
-parse-requires : tie.Need-parse-requires Inv-loop μ-loop
-parse-requires c κs = search needs
+parse-in-requires : tie.Need-parse-in-requires Inv-loop μ-loop
+parse-in-requires c κs = search needs
 
 add-i : tie.Need-add-i Inv-loop μ-loop
 add-i c = search needs
@@ -44,7 +44,7 @@ loop-less c = search needs
 loop-again : tie.Need-loop-again Inv-loop μ-loop
 loop-again c =
     let pre = c .before .before .before .before .before .before .before .before .before .before .pre in
-    turn (pre .0) (pre .1) (c .before .before .before .before .before .before .loop .inv) (c .before .before .before .before .before .loop-test .taken) (c .before .parse .ensures ∙ ap (call _) (c .before .before .frame-at .ensures))
+    turn (pre .0) (pre .1) (c .before .before .before .before .before .before .loop .inv) (c .before .before .before .before .before .loop-test .taken) (c .before .parse-in .ensures ∙ ap (call _ _) (c .before .before .frame-at .ensures))
 
 returns : tie.Need-returns Inv-loop μ-loop
 returns c =
@@ -63,7 +63,7 @@ feed-spec =
     mul-frame-at-2
     shared-slice-read-frame-at-2
     frame-at-requires
-    parse-requires
+    parse-in-requires
     add-i
     loop-less
     loop-again
