@@ -6,19 +6,25 @@ use vp8_records::Parser;
 ghost use mathlib.Core.Path.{_≡_};
 ghost use Prim.Native.Nat.{_≤_};
 ghost use lib.ListN.{length, take};
-ghost use Rattle.vp8_records.specs.Start.{fresh};
 ghost use Rattle.rfc6386.specs.Call.{after};
 ghost use Rattle.ivf.specs.Walk.{bytesOf};
 ghost use Rattle.ivf.specs.Listed.{placesOf};
 ghost use Rattle.vp8_recording.specs.Plays.{allIn};
 
 // The first `count` listed frames, each to the parser that the one before left, and its lines; the parser after all of them.
-fn tell_frames(file: &[u8], offsets: &[u64], lengths: &[u32], count: usize, mode: Mode) -> Parser
+fn tell_frames(
+    parser: Parser,
+    file: &[u8],
+    offsets: &[u64],
+    lengths: &[u32],
+    count: usize,
+    mode: Mode,
+) -> Parser
     requires { ⌜ (count ≤ length (now offsets)) × (count ≤ length (now lengths)) ⌝ }
-    ensures { λ r. ⌜ r ≡ after fresh (allIn mode
+    ensures { λ r. ⌜ r ≡ after parser (allIn mode
         (bytesOf (now (file .entry)) (placesOf (take count (now (offsets .entry))) (take count (now (lengths .entry)))))) ⌝ }
 {
-    let mut state = Parser::new();
+    let mut state = parser;
     let mut i = 0;
     while i < count {
         let bytes = vp8_recording::frame_at(file, offsets[i], lengths[i]);
@@ -55,6 +61,7 @@ pub fn run(mode: Mode) {
     let walked = ivf::walk(&file[..n], &mut offsets, &mut lengths);
     let count = walked.count;
     let ended = walked.ended;
-    tell_frames(&file[..n], &offsets, &lengths, count, mode);
+    let fresh = Parser::new();
+    tell_frames(fresh, &file[..n], &offsets, &lengths, count, mode);
     tell_refusal(ended);
 }
