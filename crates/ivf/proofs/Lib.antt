@@ -6,3 +6,4 @@ pub mod Turns
 pub mod Fills
 pub mod Spaces
 pub mod Recordings
+mod Cases

@@ -168,6 +168,18 @@ module _ {f rest : List ℕ} {fs : List (List ℕ)} (r : Recording f fs rest) wh
   unfolding walked
   walked-ended room = rw (r .header) (lists (r .records) f 32 refl headed-at (r .last) room .ended)
 
+  -- so where it does not end for want of room, there was room for all
+  pub enough : (room : ℕ) → (walked room f .ended ≡ ListFull → ⊥) → length fs ≤ room
+  enough room e = go (decLe (length fs) room)
+    where
+      go : Dec (length fs ≤ room) → length fs ≤ room
+      go (yes h) = h
+      go (no h) = absurd (e (walked-ended room ∙ rw (lt-ltb room (length fs) (omega (arith, h)))))
+
+-- nothing follows the last record of a file that ends there
+pub ends-there : (x t : List ℕ) → Whole [] x t → ⊥
+ends-there x t w = omega (arith, parts w .enough)
+
 -- what is left of a file at a place, in frames and a rest
 record Parted (s : List ℕ) : Type 0 where
   pub frames : List (List ℕ)

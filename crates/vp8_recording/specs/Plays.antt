@@ -10,8 +10,11 @@ use Rattle.ivf.specs.Walk.{walked, bytesOf}
 use Rattle.ivf.specs.Listed.{room, Listed}
 use Rattle.vp8_recording.specs.declared.Played.{Played}
 
+abbrev pub asks : Mode → List ℕ → Asked
+asks md f = record { mode = md; frame = f }
+
 abbrev pub allIn : Mode → List (List ℕ) → List Asked
-allIn md fs = map (λ (f : List ℕ). record { mode = md; frame = f }) fs
+allIn md fs = map (asks md) fs
 
 -- the contract of `play_in` over a file f: the walk's, and the parser after a call for each frame that it lists. That p is sized is no
 -- promise but known of every parser that a caller can pass, and here for those who use the contract
