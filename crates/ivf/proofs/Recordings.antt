@@ -9,8 +9,8 @@ use mathlib.Core.Bool.{Bool, true, false}
 use mathlib.Core.List.{List, [], _∷_, _++_}
 use borrow.Author.Tests.{lt-ltb, le-ltb}
 use lib.Dec.{ltb}
-use lib.ListN.{length, getD, take, drop, length-append, length-drop, length-take, take-append-drop, drop-of-length-le}
-use lib.Seq.{take-nil, take-append-le, drop-append-le, take-at, drop-at, take-add, take-all, drop-drop, getD-take, getD-drop, length-take-le}
+use lib.ListN.{length, getD, take, drop, length-append, length-drop, take-append-drop, drop-of-length-le}
+use lib.Seq.{take-nil, take-append-le, drop-append-le, take-at, drop-at, take-add, drop-drop, getD-take, getD-drop, length-take-le}
 use Rattle.rfc6386.specs.Bytes.{le4}
 use Rattle.ivf.specs.declared.Step.{Step}
 use Rattle.ivf.specs.declared.Step.the-variants.{Done, Cut, Frame}
@@ -23,7 +23,8 @@ use Rattle.ivf.proofs.Steps.{a-frame, fits, done-left, cut-left, walk-d
 -- the size is told by the first four bytes
 first-four : (s : List ℕ) → le4 (take 4 s) 0 ≡ le4 s 0
 first-four s =
-    omega (arith, getD-take 4 s 0 0 (omega arith), getD-take 4 s 1 0 (omega arith), getD-take 4 s 2 0 (omega arith), getD-take 4 s 3 0 (omega arith))
+    let byte : (i : ℕ) → i < 4 → getD (take 4 s) i 0 ≡ getD s i 0 = λ i h. getD-take 4 s i 0 h in
+    omega (arith, byte 0 (omega arith), byte 1 (omega arith), byte 2 (omega arith), byte 3 (omega arith))
 
 from-place : (f : List ℕ) (at : ℕ) → le4 (drop at f) 0 ≡ le4 f at
 from-place f at =
@@ -42,10 +43,11 @@ parts {s} {x} {t} w =
     let twelve : length head ≡ 12 = omega (arith, length-append (w .size) (w .stamp), w .four, w .eight) in
     let up : length (head ++ x) ≡ 12 + length x = omega (arith, length-append head x, twelve) in
     let four : take 4 s ≡ w .size =
-      ap (take 4) (w .bytes) ∙ take-append-le 4 (head ++ x) t (omega (arith, up)) ∙ take-append-le 4 head x (omega (arith, twelve))
-      ∙ take-at (w .size) (w .stamp) 4 (w .four) in
+    ap (take 4) (w .bytes) ∙ take-append-le 4 (head ++ x) t (omega (arith, up)) ∙ take-append-le 4 head x (omega (arith, twelve))
+    ∙ take-at (w .size) (w .stamp) 4 (w .four) in
     let after : drop 12 s ≡ x ++ t =
-      ap (drop 12) (w .bytes) ∙ drop-append-le 12 (head ++ x) t (omega (arith, up)) ∙ ap (λ (l : List ℕ). l ++ t) (drop-at head x 12 twelve) in
+    ap (drop 12) (w .bytes) ∙ drop-append-le 12 (head ++ x) t (omega (arith, up))
+    ∙ ap (λ (l : List ℕ). l ++ t) (drop-at head x 12 twelve) in
     record {
       size = sym (first-four s) ∙ ap (λ (l : List ℕ). le4 l 0) four ∙ w .counted;
       enough = ap length (w .bytes) ∙ length-append (head ++ x) t ∙ ap (λ (n : ℕ). n + length t) up;
@@ -93,16 +95,13 @@ module _ (f : List ℕ) (at : ℕ) where
         stamp = take 8 (drop 4 s);
         bytes = sym (take-append-drop (12 + n) s)
             ∙ ap₂ (λ (a b : List ℕ). a ++ b)
-              (take-add 12 n s ∙ ap₂ (λ (a b : List ℕ). a ++ b) (take-add 4 8 s) (ap (take n) there))
-              beyond;
+            (take-add 12 n s ∙ ap₂ (λ (a b : List ℕ). a ++ b) (take-add 4 8 s) (ap (take n) there))
+            beyond;
         four = length-take-le 4 s (omega (arith, length-drop at f, end));
         eight = length-take-le 8 (drop 4 s) (omega (arith, length-drop at f, length-drop 4 s, end));
         counted = first-four s ∙ from-place f at ∙ fits f at h e .1
             ∙ sym (length-take-le n (drop (at + 12) f) (omega (arith, length-drop (at + 12) f, end)));
       }
-
-  no-whole : {x t : List ℕ} → at ≤ length f → (stepAt f at ≡ Frame (length x) → ⊥) → Whole (drop at f) x t → ⊥
-  no-whole h never w = never (whole-step h w)
 
 -- what a walk from a place on lists of these frames, and how it ends
 record Lists (k : ℕ) (f : List ℕ) (at : ℕ) (fs : List (List ℕ)) (rest : List ℕ) : Type 0 where
@@ -187,23 +186,23 @@ record Parted (s : List ℕ) : Type 0 where
   pub records : Records s frames rest
   pub last : (x t : List ℕ) → Whole rest x t → ⊥
 
+part-none : (f : List ℕ) (at : ℕ) → ((x t : List ℕ) → Whole (drop at f) x t → ⊥) → Parted (drop at f)
+part-none f at over = record { frames = []; rest = drop at f; records = none; last = over }
+
 part-step : (f : List ℕ) (at : ℕ) → at ≤ length f → ((n : ℕ) → at + 12 + n ≤ length f → Parted (drop (at + 12 + n) f)) → (s : Step)
     → stepAt f at ≡ s → Parted (drop at f)
-part-step f at h more Done e = record {
-  frames = [];
-  rest = drop at f;
-  records = none;
-  last = λ x t w. let z : _≡_ {A = ℕ} 0 1 = cc (sym e ∙ whole-step f at h w) in omega arith;
-}
-part-step f at h more Cut e = record {
-  frames = [];
-  rest = drop at f;
-  records = none;
-  last = λ x t w. let z : _≡_ {A = ℕ} 0 1 = cc (sym e ∙ whole-step f at h w) in omega arith;
-}
+part-step f at h more Done e =
+    part-none f at (λ x t w. let z : _≡_ {A = ℕ} 0 1 = cc (sym e ∙ whole-step f at h w) in omega arith)
+part-step f at h more Cut e =
+    part-none f at (λ x t w. let z : _≡_ {A = ℕ} 0 1 = cc (sym e ∙ whole-step f at h w) in omega arith)
 part-step f at h more (Frame n) e =
     let p = more n (fits f at h e .0) in
-    record { frames = take n (drop (at + 12) f) ∷ p .frames; rest = p .rest; records = next (step-whole f at h e) (p .records); last = p .last }
+    record {
+      frames = take n (drop (at + 12) f) ∷ p .frames;
+      rest = p .rest;
+      records = next (step-whole f at h e) (p .records);
+      last = p .last;
+    }
 
 -- each record is at least 12 bytes, so they come to an end
 parted : (k : ℕ) (f : List ℕ) (at : ℕ) → at ≤ length f → length f < at + k → Parted (drop at f)

@@ -32,51 +32,40 @@ module _ (f : List ℕ) (at : ℕ) where
   unfolding stepAt
   a-frame e h g = rw (ne-eqb _ _ e, le-ltb _ _ h, le-ltb _ _ g)
 
+  -- so it is one of three
+  cases : {A : Type 0} → (length f - at ≡ 0 → Done ≡ stepAt f at → A) → (1 ≤ length f - at → Cut ≡ stepAt f at → A)
+      → (12 + le4 f at ≤ length f - at → Frame (le4 f at) ≡ stepAt f at → A) → A
+  cases {A} done cut frame = some-left (decLe 1 (length f - at))
+    where
+      whole : 12 ≤ length f - at → Dec (le4 f at ≤ length f - at - 12) → A
+      whole g (yes d) = frame (omega (arith, g, d)) (a-frame (λ z. omega (arith, g, z)) g d)
+      whole g (no d) = cut (omega (arith, g)) (no-bytes (λ z. omega (arith, g, z)) g (omega (arith, d)))
+
+      sized : 1 ≤ length f - at → Dec (12 ≤ length f - at) → A
+      sized l (yes d) = whole d (decLe (le4 f at) (length f - at - 12))
+      sized l (no d) = cut l (no-size (λ z. omega (arith, l, z)) (omega (arith, d)))
+
+      some-left : Dec (1 ≤ length f - at) → A
+      some-left (yes d) = sized d (decLe 12 (length f - at))
+      some-left (no d) = done (omega (arith, d)) (at-end (omega (arith, d)))
+
   -- a record that is not cut short ends within the file, and its size is what its first bytes say
   pub fits : {n : ℕ} → at ≤ length f → stepAt f at ≡ Frame n → (at + 12 + n ≤ length f) × (le4 f at ≡ n)
-  fits {n} h e = some-left (decLe 1 (length f - at))
-    where
-      never : {A : Step} → A ≡ stepAt f at → (A ≡ Frame n → _≡_ {A = ℕ} 0 1) → ⊥
-      never p q = let z = q (p ∙ e) in omega arith
+  fits {n} h e =
+      cases (λ l d. absurd (let z : _≡_ {A = ℕ} 0 1 = cc (d ∙ e) in omega arith))
+      (λ l d. absurd (let z : _≡_ {A = ℕ} 0 1 = cc (d ∙ e) in omega arith))
+      (λ l d. let s : le4 f at ≡ n = cc (d ∙ e) in (omega (arith, h, l, s), s))
 
-      whole : (length f - at ≡ 0 → ⊥) → 12 ≤ length f - at → Dec (le4 f at ≤ length f - at - 12)
-          → (at + 12 + n ≤ length f) × (le4 f at ≡ n)
-      whole l g (yes d) = let s : le4 f at ≡ n = cc (a-frame l g d) in (omega arith, s)
-      whole l g (no d) = absurd (never (no-bytes l g (omega arith)) (λ x. cc))
-
-      sized : (length f - at ≡ 0 → ⊥) → Dec (12 ≤ length f - at) → (at + 12 + n ≤ length f) × (le4 f at ≡ n)
-      sized l (yes d) = whole l d (decLe (le4 f at) (length f - at - 12))
-      sized l (no d) = absurd (never (no-size l (omega arith)) (λ x. cc))
-
-      some-left : Dec (1 ≤ length f - at) → (at + 12 + n ≤ length f) × (le4 f at ≡ n)
-      some-left (yes d) = sized (λ z. omega arith) (decLe 12 (length f - at))
-      some-left (no d) = absurd (never (at-end (omega arith)) (λ x. cc))
-
-  -- at the end and nowhere else nothing is left
+  -- nothing is left at the end, and something in a record that is cut short
   pub done-left : stepAt f at ≡ Done → length f - at ≡ 0
-  done-left e = go (decLe 1 (length f - at))
-    where
-      never : {A : Step} → A ≡ stepAt f at → (A ≡ Done → _≡_ {A = ℕ} 0 1) → ⊥
-      never p q = let z = q (p ∙ e) in omega arith
-
-      whole : (length f - at ≡ 0 → ⊥) → 12 ≤ length f - at → Dec (le4 f at ≤ length f - at - 12) → length f - at ≡ 0
-      whole l g (yes d) = absurd (never (a-frame l g d) (λ x. cc))
-      whole l g (no d) = absurd (never (no-bytes l g (omega arith)) (λ x. cc))
-
-      sized : (length f - at ≡ 0 → ⊥) → Dec (12 ≤ length f - at) → length f - at ≡ 0
-      sized l (yes d) = whole l d (decLe (le4 f at) (length f - at - 12))
-      sized l (no d) = absurd (never (no-size l (omega arith)) (λ x. cc))
-
-      go : Dec (1 ≤ length f - at) → length f - at ≡ 0
-      go (yes d) = sized (λ z. omega arith) (decLe 12 (length f - at))
-      go (no d) = omega arith
+  done-left e =
+      cases (λ l d. l) (λ l d. absurd (let z : _≡_ {A = ℕ} 0 1 = cc (d ∙ e) in omega arith))
+      (λ l d. absurd (let z : _≡_ {A = ℕ} 0 1 = cc (d ∙ e) in omega arith))
 
   pub cut-left : stepAt f at ≡ Cut → 1 ≤ length f - at
-  cut-left e = go (decLe 1 (length f - at))
-    where
-      go : Dec (1 ≤ length f - at) → 1 ≤ length f - at
-      go (yes d) = d
-      go (no d) = let z : _≡_ {A = ℕ} 0 1 = cc (at-end (omega arith) ∙ e) in omega arith
+  cut-left e =
+      cases (λ l d. absurd (let z : _≡_ {A = ℕ} 0 1 = cc (d ∙ e) in omega arith)) (λ l d. l)
+      (λ l d. absurd (let z : _≡_ {A = ℕ} 0 1 = cc (d ∙ e) in omega arith))
 
   pub walk-done : (k : ℕ) → stepAt f at ≡ Done → walkFrom k f at ≡ ends AtEnd
   unfolding walkFrom

@@ -61,7 +61,7 @@ module _ {f os₀ ls₀ : List ℕ} {room : ℕ} {os ls : List ℕ} {at count : 
   turn {n} e h =
       let one : room - count ≡ suc (room - suc count) = omega arith in
       let next : walkFrom (room - count) f at ≡ first (at + 12) n (walkFrom (room - suc count) f (at + 12 + n)) =
-        rw one (walk-frame f at (room - suc count) e) in
+      rw one (walk-frame f at (room - suc count) e) in
       record {
         within = fits f at (t .within) e .0;
         few = omega arith;

@@ -99,7 +99,8 @@ fn smaller(a: usize, b: usize) -> usize
 // Lists the frames of a file, in its order, as far as both lists go. The offset of a frame is that of its bytes; the timestamps and the
 // count in the header are not looked at.
 pub fn walk(file: &[u8], offsets: &mut [u64], lengths: &mut [u32]) -> Walked
-    ensures { λ r. ⌜ Listed (now (file .entry)) r (now (offsets .entry)) (now (offsets .exit)) (now (lengths .entry)) (now (lengths .exit)) ⌝ }
+    ensures { λ r. ⌜ Listed (now (file .entry)) r
+        (now (offsets .entry)) (now (offsets .exit)) (now (lengths .entry)) (now (lengths .exit)) ⌝ }
 {
     if !is_headed(file) {
         return Walked {

@@ -124,13 +124,7 @@ fn record(file: &mut [u8], offsets: &mut [u64], lengths: &mut [u32]) -> bool {
             if got < wanted {
                 return wrong(b"cut short");
             }
-            lists(
-                &file[..got],
-                offsets,
-                lengths,
-                of_offsets,
-                of_lengths,
-            )
+            lists(&file[..got], offsets, lengths, of_offsets, of_lengths)
         }
         Number::End => wrong(b"cut short"),
         Number::Short => wrong(b"cut short"),

@@ -88,8 +88,8 @@ stands-more x xs buffer n next full (no g) =
 pub stands : (xs buffer : List ℕ) (n : ℕ) → n ≤ length buffer → Stands xs buffer n
 stands [] buffer n h = rw (puts-nil (text buffer n), take-nil {A = ℕ} (length buffer - n)) (sym (append-nil (take n buffer)))
 stands (x ∷ xs) buffer n h =
-    stands-more x xs buffer n (λ g. stands xs (set buffer n x) (n + 1) (rw (length-set buffer n x) (omega (arith, g)))) (stands xs buffer n h)
-    (decLe (suc n) (length buffer))
+    stands-more x xs buffer n (λ g. stands xs (set buffer n x) (n + 1) (rw (length-set buffer n x) (omega (arith, g))))
+    (stands xs buffer n h) (decLe (suc n) (length buffer))
 
 -- one byte is a piece
 pub one : (t : Text) (out : List ℕ) (to b : ℕ) → text out to ≡ put t b → text out to ≡ puts t (b ∷ [])

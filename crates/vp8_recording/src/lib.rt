@@ -81,12 +81,7 @@ pub fn play_in(
 }
 
 // The same, with frames read as the Rust reads them.
-pub fn play(
-    parser: Parser,
-    file: &[u8],
-    offsets: &mut [u64],
-    lengths: &mut [u32],
-) -> Played
+pub fn play(parser: Parser, file: &[u8], offsets: &mut [u64], lengths: &mut [u32]) -> Played
     ensures { λ r. ⌜ Plays Rust parser (now (file .entry)) r
         (now (offsets .entry)) (now (offsets .exit)) (now (lengths .entry)) (now (lengths .exit)) ⌝ }
 {

@@ -1,5 +1,5 @@
--- The lines of the partitions one by one, in terms of what is left; the words of a refusal by its number; and two examples of the text,
--- by computation.
+-- The lines of the partitions one by one, in terms of what is left; the words of a refusal by its number; lines with a number in front;
+-- and examples of the text, by computation.
 use Prim.Native.Nat.{ℕ, suc, _+_, _-_, _≤_, _<_}
 use native.Mathlib.Omega.{arith}
 use native.Mathlib.Numerals.{add-one}
@@ -169,12 +169,13 @@ hex-is t u name xs ys e d = e ∙ ap (λ (l : List ℕ). puts t (name ++ hexOf l
 
 -- lines in an empty buffer of 1,024 bytes, and from there to the text, each with a number in front
 pub numbered-lines : (t u : Text) (empty own lines : List ℕ) (end index : ℕ) (p : Parsed) → length empty ≡ 1024
-    → text own end ≡ puts (text empty 0) (printed p) → lines ≡ take end own → u ≡ puts t (numbered index lines) → u ≡ puts t (printedAt index p)
+    → text own end ≡ puts (text empty 0) (printed p) → lines ≡ take end own → u ≡ puts t (numbered index lines)
+    → u ≡ puts t (printedAt index p)
 unfolding printedAt
 numbered-lines t u empty own lines end index p l e q w =
     let all : length empty - 0 ≡ 1024 = omega (arith, l) in
     let told : take end own ≡ take (length empty - 0) (printed p) =
-      ap (λ (x : Text). take (x .count) (x .buffer)) e ∙ stands (printed p) empty 0 (omega arith) in
+    ap (λ (x : Text). take (x .count) (x .buffer)) e ∙ stands (printed p) empty 0 (omega arith) in
     w ∙ ap (λ (k : List ℕ). puts t (numbered index k)) (q ∙ told ∙ ap (λ (n : ℕ). take n (printed p)) all)
 
 -- examples, by computation

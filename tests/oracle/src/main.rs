@@ -73,7 +73,8 @@ const USAGE: &str = "usage: tests/oracle/run COMMAND
   stats                      what both fixed lists reach (needs the recordings)
   stats -                    what frame records on standard input reach
   replay FRAMES BOOLS        replays both stored lists on the Rust and the standard's reader
-  slips DIR                  writes one program for each slip into DIR";
+  slips DIR                  writes one program for each slip into DIR
+  walk-slips RECORDS LINES   whether a stored list of walks tells slips of a walk apart";
 
 fn stop(code: i32, why: &str) -> ! {
     eprintln!("{why}");
@@ -358,11 +359,21 @@ fn ivf_lines(mode: Mode) {
 
 /// Recordings on standard input, each after two lengths of lists and its own.
 fn lists() {
-    let mut input = std::io::stdin().lock();
-    while let Some(lengths) = take(&mut input, 2) {
-        let n = length(&mut input).unwrap_or_else(|_| stop(1, "cut short"));
-        let file = take(&mut input, n).unwrap_or_else(|| stop(1, "cut short"));
-        emit(reel::listed(&file, lengths[0] as usize, lengths[1] as usize).as_bytes());
+    let mut input = Vec::new();
+    if std::io::stdin().lock().read_to_end(&mut input).is_err() {
+        stop(2, "cannot read standard input");
+    }
+    for (file, offsets, lengths) in reel::list_records(&input) {
+        emit(reel::listed(&file, offsets, lengths).as_bytes());
+    }
+}
+
+/// Whether a stored list of walks tells each slip apart.
+fn walk_slips(records: &str, lines: &str) {
+    let read = |name: &str| std::fs::read(name).unwrap_or_else(|why| stop(2, &format!("{name}: {why}")));
+    let lines = String::from_utf8(read(lines)).unwrap_or_else(|why| stop(1, &why.to_string()));
+    if !reel::slips(&read(records), &lines) {
+        std::process::exit(1);
     }
 }
 
@@ -516,6 +527,7 @@ fn main() {
         }
         ["stats", "-"] => reached(),
         ["replay", ..] => std::process::exit(replay::main(&arguments[1..], &[])),
+        ["walk-slips", records, lines] => walk_slips(records, lines),
         ["slips", folder] => slips::write(&PathBuf::from(folder)),
         _ => stop(2, USAGE),
     }

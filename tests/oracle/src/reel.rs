@@ -1,5 +1,5 @@
-//! Recordings as the port takes them: the walk by docs/RULES.md, written apart from the port's and from ivf.rs, which takes whole recordings
-//! alone; the lines that are printed of one; and drawn ones, most of them damaged.
+//! Recordings as the port takes them: the walk by docs/RULES.md, written apart from the port's and from ivf.rs, which takes whole ones
+//! alone; the lines that are printed of one; drawn ones, most of them damaged; and slips of the walk.
 
 use crate::answer::{Answer, Mode};
 use crate::engine::Engine;
@@ -84,8 +84,8 @@ pub fn listed(file: &[u8], offsets: usize, lengths: usize) -> String {
     let list = |entries: usize, first: usize, value: fn(&Range<usize>) -> usize| -> String {
         (0..entries).map(|i| format!(" {}", walk.frames.get(i).map_or(first + i, value))).collect()
     };
-    let (count, refusal) = (walk.frames.len(), walk.refusal);
-    format!("count {count} refused {refusal} offsets{} lengths{}\n", list(offsets, 1_000_000, |at| at.start), list(lengths, 2_000_000, |at| at.len()))
+    let (offsets, lengths) = (list(offsets, 1_000_000, |at| at.start), list(lengths, 2_000_000, |at| at.len()));
+    format!("count {} refused {} offsets{offsets} lengths{lengths}\n", walk.frames.len(), walk.refusal)
 }
 
 fn header(rng: &mut Rng, frames: u32) -> Vec<u8> {
@@ -202,4 +202,109 @@ pub fn list_record(rng: &mut Rng, streams: &[Stream]) -> Vec<u8> {
     out.extend((file.len() as u32).to_le_bytes());
     out.extend(file);
     out
+}
+
+/// The slips that the stored list of walks has to tell from the walk, and the first, which is none.
+const SLIPS: [&str; 21] = [
+    "none",
+    "12 is told before 11",
+    "full lists are told at the end of the file too",
+    "the offset is that of the record",
+    "the offset is that of the timestamp",
+    "the timestamp's bytes count as the frame's",
+    "the size has three bytes",
+    "the size has its most significant byte first",
+    "where the record ends is added up in 32 bits",
+    "a size of 2^31 and more counts as 0",
+    "a frame that runs past the end is listed as far as it goes",
+    "fewer than 12 bytes are no record, and no refusal",
+    "a header may end with the file",
+    "the version is not looked at",
+    "the header's length is not looked at",
+    "the codec is not looked at",
+    "the count in the header ends the walk",
+    "the lengths' list is taken to be as long as the offsets'",
+    "an entry is written before it is known that there is room for both",
+    "entries past the count are cleared",
+    "an empty frame is not listed",
+];
+
+/// The line of a walk with a slip, by another walk than the one above.
+fn slipped(slip: usize, file: &[u8], offsets: usize, lengths: usize) -> String {
+    let mut of: Vec<usize> = (1_000_000..1_000_000 + offsets).collect();
+    let mut le: Vec<usize> = (2_000_000..2_000_000 + lengths).collect();
+    let byte = |at: usize| file.get(at).map_or(0, |b| *b as usize);
+    let word = |at: usize| (0..4).fold(0, |n, i| n | byte(at + i) << (8 * i));
+    let skips = |place: usize| matches!((slip, place), (13, 4 | 5) | (14, 6 | 7) | (15, 8..=11));
+    let magic = b"DKIF\0\0\x20\0VP80";
+    let headed = file.len() >= if slip == 12 { 12 } else { 32 } && (0..12).all(|i| byte(i) == magic[i] as usize || skips(i));
+    let (mut at, mut count) = (32, 0);
+    let ended = loop {
+        let left = file.len().saturating_sub(at);
+        let full = count == offsets.min(lengths);
+        let mut size = match slip {
+            6 => word(at) & 0xff_ffff,
+            7 => (word(at) as u32).swap_bytes() as usize,
+            9 if word(at) >> 31 == 1 => 0,
+            _ => word(at),
+        };
+        if !headed {
+            break 10;
+        }
+        if left == 0 || slip == 11 && left < 12 || slip == 16 && count >= word(24) {
+            break if slip == 2 && full { 12 } else { 0 };
+        }
+        let short = left < 12 || if slip == 8 { ((at + 12 + size) as u32 as usize) > file.len() } else { left - 12 < size };
+        if short && !(slip == 1 && full) && !(slip == 10 && left >= 12) {
+            break 11;
+        }
+        size = size.min(left.saturating_sub(12));
+        if slip == 18 && count < offsets {
+            of[count] = at + 12;
+        }
+        if full && !(slip == 17 && count < offsets) {
+            break 12;
+        }
+        if slip != 20 || size > 0 {
+            of[count] = at + match slip { 3 => 0, 4 | 5 => 4, _ => 12 };
+            le.resize(le.len().max(count + 1), 0);
+            le[count] = size + if slip == 5 { 8 } else { 0 };
+            count += 1;
+        }
+        at += 12 + size;
+    };
+    if slip == 19 {
+        of.iter_mut().skip(count).for_each(|e| *e = 0);
+    }
+    let list = |entries: &[usize]| -> String { entries.iter().map(|e| format!(" {e}")).collect() };
+    format!("count {count} refused {ended} offsets{} lengths{}", list(&of), list(&le))
+}
+
+/// The records of the lists' program.
+pub fn list_records(mut input: &[u8]) -> Vec<(Vec<u8>, usize, usize)> {
+    let mut all = Vec::new();
+    while let [offsets, lengths, a, b, c, d, rest @ ..] = input {
+        let n = u32::from_le_bytes([*a, *b, *c, *d]) as usize;
+        all.push((rest[..n].to_vec(), *offsets as usize, *lengths as usize));
+        input = &rest[n..];
+    }
+    all
+}
+
+/// Whether the stored lines tell each slip from the walk; says the first line of each that differs.
+pub fn slips(input: &[u8], lines: &str) -> bool {
+    let records = list_records(input);
+    let stored: Vec<&str> = lines.lines().collect();
+    assert!(records.len() == stored.len(), "as many lines as records");
+    let mut good = true;
+    for (slip, name) in SLIPS.iter().enumerate() {
+        let first = records.iter().zip(&stored).position(|((file, a, b), line)| slipped(slip, file, *a, *b) != *line);
+        match first {
+            Some(i) => println!("     {name}: first line {}", i + 1),
+            None => println!("     {name}: nothing differs"),
+        }
+        good &= first.is_some() == (slip > 0);
+    }
+    println!("{} slips of the walk, {}", SLIPS.len() - 1, if good { "each told apart" } else { "NOT each told apart" });
+    good
 }

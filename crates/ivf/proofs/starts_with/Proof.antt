@@ -27,8 +27,9 @@ element-copy-out-if1 c = search needs
 returns : tie.Need-returns Inv-loop μ-loop
 returns c =
     let l = c .before .before .before .before .loop in
-    let a = c .before .before .before .before .before .args in
-    differs (a .start .now) (a .file .now) (l .i) (omega (arith, ap length (c .before .before .before .before .before .pre .1))) (omega arith) (c .if1 .taken) ∙ l .inv .1
+    let start = c .before .before .before .before .before in
+    let a = start .args in
+    differs (a .start .now) (a .file .now) (l .i) (omega (arith, ap length (start .pre .1))) (omega arith) (c .if1 .taken) ∙ l .inv .1
 
 add-i : tie.Need-add-i Inv-loop μ-loop
 add-i c = search needs
@@ -39,8 +40,11 @@ loop-less c = search needs
 loop-again : tie.Need-loop-again Inv-loop μ-loop
 loop-again c =
     let l = c .before .before .before .before .loop in
-    let a = c .before .before .before .before .before .args in
-    (omega arith, agrees (a .start .now) (a .file .now) (l .i) (omega (arith, ap length (c .before .before .before .before .before .pre .1))) (omega arith) (c .if1 .left) ∙ l .inv .1)
+    let start = c .before .before .before .before .before in
+    let a = start .args in (
+      omega arith,
+      agrees (a .start .now) (a .file .now) (l .i) (omega (arith, ap length (start .pre .1))) (omega arith) (c .if1 .left) ∙ l .inv .1,
+    )
 
 returns-2 : tie.Need-returns-2 Inv-loop μ-loop
 returns-2 c =

@@ -22,10 +22,14 @@ cast-if3 : tie.Need-cast-if3
 cast-if3 c = search needs
 
 returns-3 : tie.Need-returns-3
-returns-3 c = no-bytes _ _ (c .before .before .before .if1 .left) (c .before .before .if2 .left) (rw (c .before .read-le4 .ensures) at (c .if3 .taken))
+returns-3 c =
+    let size = c .before .read-le4 .ensures in
+    no-bytes _ _ (c .before .before .before .if1 .left) (c .before .before .if2 .left) (rw size at (c .if3 .taken))
 
 returns-4 : tie.Need-returns-4
-returns-4 c = ap Frame (c .before .read-le4 .ensures) ∙ a-frame _ _ (c .before .before .before .if1 .left) (c .before .before .if2 .left) (rw (c .before .read-le4 .ensures) at (c .if3 .left))
+returns-4 c =
+    let size = c .before .read-le4 .ensures in
+    ap Frame size ∙ a-frame _ _ (c .before .before .before .if1 .left) (c .before .before .if2 .left) (rw size at (c .if3 .left))
 
 pub step-at-spec : {M : Type 1} → statement M
 step-at-spec =

@@ -45,10 +45,11 @@ same-length-2 c = search needs
 
 returns-2 : tie.Need-returns-2 Inv-loop μ-loop
 returns-2 c =
-    let l = c .before .before .before .loop in
+    let at-loop = c .before .before .before in
+    let at-room = at-loop .before in
+    let header = sym (at-room .before .before .is-headed .ensures) ∙ not-false _ (at-room .before .if1 .left) in
     let here = sym (c .before .before .step-at .ensures) ∙ c .enum-told .given .1 in
-    let header = sym (c .before .before .before .before .before .before .is-headed .ensures) ∙ not-false _ (c .before .before .before .before .before .if1 .left) in
-    stop (l .inv) AtEnd header (c .before .before .before .before .smaller .ensures) (walk-done _ _ _ here)
+    stop (at-loop .loop .inv) AtEnd header (at-room .smaller .ensures) (walk-done _ _ _ here)
 
 enum-told-2 : tie.Need-enum-told-2 Inv-loop μ-loop
 enum-told-2 c = search needs
@@ -61,10 +62,11 @@ same-length-4 c = search needs
 
 returns-3 : tie.Need-returns-3 Inv-loop μ-loop
 returns-3 c =
-    let l = c .before .before .before .loop in
+    let at-loop = c .before .before .before in
+    let at-room = at-loop .before in
+    let header = sym (at-room .before .before .is-headed .ensures) ∙ not-false _ (at-room .before .if1 .left) in
     let here = sym (c .before .before .step-at .ensures) ∙ c .enum-told2 .given .1 in
-    let header = sym (c .before .before .before .before .before .before .is-headed .ensures) ∙ not-false _ (c .before .before .before .before .before .if1 .left) in
-    stop (l .inv) CutShort header (c .before .before .before .before .smaller .ensures) (walk-cut _ _ _ here)
+    stop (at-loop .loop .inv) CutShort header (at-room .smaller .ensures) (walk-cut _ _ _ here)
 
 enum-known-size : tie.Need-enum-known-size Inv-loop μ-loop
 enum-known-size c = search needs
@@ -77,10 +79,11 @@ same-length-6 c = search needs
 
 returns-4 : tie.Need-returns-4 Inv-loop μ-loop
 returns-4 c =
-    let l = c .before .before .before .before .before .loop in
+    let at-loop = c .before .before .before .before .before in
+    let at-room = at-loop .before in
+    let header = sym (at-room .before .before .is-headed .ensures) ∙ not-false _ (at-room .before .if1 .left) in
     let here = sym (c .before .before .before .before .step-at .ensures) ∙ c .before .before .size .given .1 in
-    let header = sym (c .before .before .before .before .before .before .before .before .is-headed .ensures) ∙ not-false _ (c .before .before .before .before .before .before .before .if1 .left) in
-    stop (l .inv) ListFull header (c .before .before .before .before .before .before .smaller .ensures) (full (l .inv) here (c .if2 .taken))
+    stop (at-loop .loop .inv) ListFull header (at-room .smaller .ensures) (full (at-loop .loop .inv) here (c .if2 .taken))
 
 add-from : tie.Need-add-from Inv-loop μ-loop
 add-from c = search needs

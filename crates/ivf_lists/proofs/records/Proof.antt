@@ -6,7 +6,8 @@ use Rattle.ivf_lists.proofs.records.Statement.{statement}
 use Rattle.ivf_lists.proofs.records.Tie as tie
 
 abbrev Inv-loop : tie.InvT-loop
-Inv-loop file₀ offsets₀ lengths₀ left₀ more₀ file offsets lengths left more = (length file ≡ length file₀) × (length offsets ≡ length offsets₀) × (length lengths ≡ length lengths₀)
+Inv-loop file₀ offsets₀ lengths₀ left₀ more₀ file offsets lengths left more =
+    (length file ≡ length file₀) × (length offsets ≡ length offsets₀) × (length lengths ≡ length lengths₀)
 
 abbrev μ-loop : tie.MeasureT-loop
 μ-loop file₀ offsets₀ lengths₀ left₀ more₀ file offsets lengths left more = left

@@ -43,8 +43,11 @@ loop-less c = search needs
 
 loop-again : tie.Need-loop-again Inv-loop μ-loop
 loop-again c =
-    let pre = c .before .before .before .before .before .before .before .before .before .before .pre in
-    turn (pre .0) (pre .1) (c .before .before .before .before .before .before .loop .inv) (c .before .before .before .before .before .loop-test .taken) (c .before .parse-in .ensures ∙ ap (call _ _) (c .before .before .frame-at .ensures))
+    let at-parse = c .before in
+    let at-test = at-parse .before .before .before .before in
+    let pre = at-test .before .before .before .before .before .pre in
+    turn (pre .0) (pre .1) (at-test .before .loop .inv) (at-test .loop-test .taken)
+    (at-parse .parse-in .ensures ∙ ap (call _ _) (at-parse .before .frame-at .ensures))
 
 returns : tie.Need-returns Inv-loop μ-loop
 returns c =

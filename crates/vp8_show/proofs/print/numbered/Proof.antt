@@ -26,8 +26,9 @@ same-length c = search needs
 
 returns : tie.Need-returns
 returns c =
-    numbered-lines _ _ _ _ _ _ _ _ (length-replicate {A = ℕ} 1024 0) (c .before .before .before .before .before .before .before .answer .ensures)
-    (c .before .before .before .part .ensures .0) (c .before .before .number-lines .ensures)
+    let at-part = c .before .before .before in
+    numbered-lines _ _ _ _ _ _ _ _ (length-replicate {A = ℕ} 1024 0) (at-part .before .before .before .before .answer .ensures)
+    (at-part .part .ensures .0) (c .before .before .number-lines .ensures)
 
 pub numbered-spec : {M : Type 1} → statement M
 numbered-spec =
