@@ -3,9 +3,10 @@ use ivf::Walked;
 use vp8_records::Mode;
 use vp8_records::Parser;
 ghost use mathlib.Core.Path.{_≡_};
-ghost use Prim.Native.Nat.{_≤_};
+ghost use Prim.Native.Nat.{_≤_, min};
 ghost use lib.ListN.{length, take, drop};
 ghost use Rattle.vp8_records.specs.declared.Mode.the-variants.{Rust};
+ghost use Rattle.vp8_records.specs.Place.{further};
 ghost use Rattle.rfc6386.specs.Call.{after};
 ghost use Rattle.ivf.specs.Walk.{bytesOf};
 ghost use Rattle.ivf.specs.Listed.{placesOf};
@@ -19,15 +20,20 @@ pub struct Played {
     pub parser: Parser,
 }
 
-// The bytes of a listed frame, as far as the file has them.
-pub fn frame_at(file: &[u8], offset: u64, length: u32) -> &[u8]
-    ensures { λ r. ⌜ now r ≡ take length (drop offset (now (file .entry))) ⌝ }
+fn start_in(size: usize, offset: u64) -> usize
+    ensures { λ r. ⌜ r ≡ min offset size ⌝ }
 {
     let from = offset as usize;
-    if file.len() < from {
-        return &file[..0];
-    }
-    let n = length as usize;
+    if from < size { from } else { size }
+}
+
+// The bytes of a listed frame, as far as the file has them, where they stand.
+pub fn frame_at(file: &[u8], offset: u64, size: u32) -> &[u8]
+    ensures { λ r. ⌜ (now r ≡ take size (drop offset (now (file .entry))))
+        × (r .ptr ≡ further (min offset (length (now (file .entry)))) (file .entry .ptr)) ⌝ }
+{
+    let from = start_in(file.len(), offset);
+    let n = size as usize;
     if n < file.len() - from {
         let end = from + n;
         return &file[from..end];

@@ -1,7 +1,9 @@
 //! Recordings as the port takes them: the walk by docs/RULES.md, written apart from the port's and from ivf.rs, which takes whole ones
-//! alone; the lines that are printed of one; drawn ones, most of them damaged; and slips of the walk.
+//! alone, and held against the Rust's own iterator; the lines that are printed of one; drawn ones, put down by the Rust's own writer and
+//! most of them damaged then; and slips of the walk.
 
 use crate::answer::{Answer, Mode};
+use crate::bitstream_utils::{IvfFileHeader, IvfFrameHeader, IvfIterator};
 use crate::engine::Engine;
 use crate::gen::{self, Frame, Stream};
 use crate::rng::Rng;
@@ -41,6 +43,19 @@ pub fn walk(file: &[u8], room: usize) -> Walk {
     Walk { frames, refusal }
 }
 
+/// The same, borne out by the Rust's iterator, which looks at no header and is not asked for a record that is cut short: it panics there.
+fn borne_out(file: &[u8], room: usize) -> Walk {
+    let walk = walk(file, room);
+    if walk.refusal != 10 {
+        let mut packets = IvfIterator::new(file);
+        for at in &walk.frames {
+            assert!(packets.next() == Some(&file[at.clone()]), "the Rust's iterator has another frame");
+        }
+        assert!(walk.refusal != 0 || packets.next().is_none(), "the Rust's iterator has a frame more");
+    }
+    walk
+}
+
 /// The lines of the printing program for one answer.
 fn printed(a: &Answer) -> Vec<String> {
     match a.refusal {
@@ -66,7 +81,7 @@ pub fn told(file: &[u8], mode: Mode) -> String {
     if file.len() > LONGEST {
         return "too large\n".into();
     }
-    let (walk, mut engine, mut out) = (walk(file, ENTRIES), Engine::new(), String::new());
+    let (walk, mut engine, mut out) = (borne_out(file, ENTRIES), Engine::new(), String::new());
     for (i, at) in walk.frames.into_iter().enumerate() {
         for line in printed(&engine.call(mode, &file[at])) {
             out += &format!("{i} {line}\n");
@@ -80,7 +95,7 @@ pub fn told(file: &[u8], mode: Mode) -> String {
 
 /// What the lists' program prints: the answer, and both lists whole, whose entries were 1,000,000 and 2,000,000 and on before.
 pub fn listed(file: &[u8], offsets: usize, lengths: usize) -> String {
-    let walk = walk(file, offsets.min(lengths));
+    let walk = borne_out(file, offsets.min(lengths));
     let list = |entries: usize, first: usize, value: fn(&Range<usize>) -> usize| -> String {
         (0..entries).map(|i| format!(" {}", walk.frames.get(i).map_or(first + i, value))).collect()
     };
@@ -89,17 +104,25 @@ pub fn listed(file: &[u8], offsets: usize, lengths: usize) -> String {
 }
 
 fn header(rng: &mut Rng, frames: u32) -> Vec<u8> {
-    let mut out = b"DKIF\0\0\x20\0VP80".to_vec();
-    out.extend(rng.bytes(12));
-    // The count of frames, right or not, and a word that nobody uses.
-    out.extend(if rng.flip() { frames } else { rng.pick(&[0, 1, frames + 1, u32::MAX, 0x8000_0000]) }.to_le_bytes());
-    out.extend(rng.bytes(4));
+    let head = IvfFileHeader {
+        codec: IvfFileHeader::CODEC_VP8,
+        width: rng.next() as u16,
+        height: rng.next() as u16,
+        framerate: rng.next() as u32,
+        timescale: rng.next() as u32,
+        // Right or not.
+        frame_count: if rng.flip() { frames } else { rng.pick(&[0, 1, frames + 1, u32::MAX, 0x8000_0000]) },
+        unused: rng.next() as u32,
+        ..IvfFileHeader::default()
+    };
+    let mut out = Vec::new();
+    head.writo_into(&mut out).expect("a vector takes all");
     out
 }
 
 fn put(rng: &mut Rng, out: &mut Vec<u8>, frame: &[u8]) {
-    out.extend((frame.len() as u32).to_le_bytes());
-    out.extend(if rng.one_in(4) { vec![0xff; 8] } else { rng.bytes(8) });
+    let timestamp = if rng.one_in(4) { u64::MAX } else { rng.next() };
+    IvfFrameHeader { frame_size: frame.len() as u32, timestamp }.writo_into(out).expect("a vector takes all");
     out.extend(frame);
 }
 

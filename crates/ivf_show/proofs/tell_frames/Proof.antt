@@ -50,7 +50,7 @@ loop-again c =
     let at-test = at-parse .before .before .before .before in
     let pre = at-test .before .before .before .before .before .pre in
     turn (pre .0) (pre .1) (at-test .before .loop .inv) (at-test .loop-test .taken)
-    (at-parse .parse-in .ensures ∙ ap (call _ _) (at-parse .before .frame-at .ensures))
+    (at-parse .parse-in .ensures ∙ ap (call _ _) (at-parse .before .frame-at .ensures .0))
 
 returns : tie.Need-returns Inv-loop μ-loop
 returns c =
