@@ -65,8 +65,8 @@ returns-2 c =
     let e = c .before .before .start-in .ensures in
     let all : List ℕ = drop from (a .file .now) in (
       take-all (length (a .file .now) - from) all (omega (arith, length-drop from (a .file .now)))
-      ∙ sym (take-all (a .size) all (omega (arith, length-drop from (a .file .now), c .before .if1 .left)))
-      ∙ ap (take (a .size)) (from-there (a .file .now) (a .offset) from e),
+          ∙ sym (take-all (a .size) all (omega (arith, length-drop from (a .file .now), c .before .if1 .left)))
+          ∙ ap (take (a .size)) (from-there (a .file .now) (a .offset) from e),
       place from _ (a .file .ptr) e,
     )
 
