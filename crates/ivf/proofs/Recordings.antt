@@ -6,7 +6,7 @@ use native.Mathlib.Omega.{arith}
 use native.Mathlib.Decide.{decLe}
 use mathlib.Core.Path.{_≡_, refl, sym, ap, ap₂, _∙_}
 use mathlib.Core.Bool.{Bool, true, false}
-use mathlib.Core.List.{List, [], _∷_, _++_}
+use mathlib.Core.List.{List, [], _∷_, _++_, map}
 use borrow.Author.Tests.{lt-ltb, le-ltb}
 use lib.Dec.{ltb}
 use lib.ListN.{length, getD, take, drop, length-append, length-drop, take-append-drop, drop-of-length-le}
@@ -106,6 +106,7 @@ module _ (f : List ℕ) (at : ℕ) where
 -- what a walk from a place on lists of these frames, and how it ends
 record Lists (k : ℕ) (f : List ℕ) (at : ℕ) (fs : List (List ℕ)) (rest : List ℕ) : Type 0 where
   pub frames : bytesOf f (walkFrom k f at .frames) ≡ take k fs
+  pub sizes : map (λ (x : Place). x .size) (walkFrom k f at .frames) ≡ map length (take k fs)
   pub ended : walkFrom k f at .ended ≡ endWith k fs rest
 
 cut-end : (rest : List ℕ) → 1 ≤ length rest → endOf rest ≡ endOf (0 ∷ [])
@@ -118,10 +119,18 @@ at-rest : (k : ℕ) (f : List ℕ) (at : ℕ) → at ≤ length f → ((x t : Li
 unfolding bytesOf
 at-rest k f at h over Done e =
     let nothing : drop at f ≡ [] = drop-of-length-le f {i = at} (omega (arith, done-left f at e)) in
-    record { frames = rw (walk-done f at k e) (sym (take-nil k)); ended = rw (walk-done f at k e, nothing, le-ltb k 0 (omega arith)) }
+    record {
+      frames = rw (walk-done f at k e, take-nil {A = List ℕ} k);
+      sizes = rw (walk-done f at k e, take-nil {A = List ℕ} k);
+      ended = rw (walk-done f at k e, nothing, le-ltb k 0 (omega arith));
+    }
 at-rest k f at h over Cut e =
     let some : endOf (drop at f) ≡ endOf (0 ∷ []) = cut-end (drop at f) (omega (arith, length-drop at f, cut-left f at e)) in
-    record { frames = rw (walk-cut f at k e) (sym (take-nil k)); ended = rw (walk-cut f at k e, le-ltb k 0 (omega arith), some) }
+    record {
+      frames = rw (walk-cut f at k e, take-nil {A = List ℕ} k);
+      sizes = rw (walk-cut f at k e, take-nil {A = List ℕ} k);
+      ended = rw (walk-cut f at k e, le-ltb k 0 (omega arith), some);
+    }
 at-rest k f at h over (Frame n) e = absurd (over _ _ (step-whole f at h e))
 
 one-more : (k n : ℕ) → ltb (suc k) (suc n) ≡ ltb k n
@@ -137,11 +146,12 @@ at-whole : (k : ℕ) (f : List ℕ) (at : ℕ) {x t rest : List ℕ} {fs : List 
 unfolding bytesOf
 at-whole zero f at {x} {fs = fs} h w more =
     let here = walk-full f at (whole-step f at h w) in
-    record { frames = rw here; ended = rw (here, lt-ltb 0 (suc (length fs)) (omega arith)) }
+    record { frames = rw here; sizes = rw here; ended = rw (here, lt-ltb 0 (suc (length fs)) (omega arith)) }
 at-whole (suc k) f at {x} {fs = fs} h w more =
     let here = walk-frame f at k (whole-step f at h w) in
     record {
       frames = rw here (ap₂ {C = List (List ℕ)} (λ y ys. y ∷ ys) (frame-bytes f at w) (more k .frames));
+      sizes = rw here (ap (λ (ns : List ℕ). length x ∷ ns) (more k .sizes));
       ended = rw (here, one-more k (length fs)) (more k .ended);
     }
 
@@ -161,6 +171,11 @@ module _ {f rest : List ℕ} {fs : List (List ℕ)} (r : Recording f fs rest) wh
   pub walked-frames : (room : ℕ) → bytesOf f (walked room f .frames) ≡ take room fs
   unfolding walked
   walked-frames room = rw (r .header) (lists (r .records) f 32 refl headed-at (r .last) room .frames)
+
+  -- with their lengths
+  pub walked-sizes : (room : ℕ) → map (λ (x : Place). x .size) (walked room f .frames) ≡ map length (take room fs)
+  unfolding walked
+  walked-sizes room = rw (r .header) (lists (r .records) f 32 refl headed-at (r .last) room .sizes)
 
   -- and it ends as the file does, or where there is no more room
   pub walked-ended : (room : ℕ) → walked room f .ended ≡ endWith room fs rest
