@@ -3,6 +3,7 @@
 use mathlib.Core.Path.{_≡_, sym, ap, _∙_, subst}
 use Prim.Native.Nat.{ℕ, _+_, _-_, _*_, _/_, _%_, _^_, _≤_, _<_}
 use native.Mathlib.Nat.{add-mul, mul-assoc, mul-comm, mul-right-comm, mul-left-comm, mul-sub, suc-mul, add-zero, one-mul, sub-add-cancel}
+use native.Mathlib.Nat.{mul-div-cancel, add-sub-cancel}
 use native.Mathlib.Nat.{mul-le-mul-right, mul-lt-mul-of-pos-right, le-of-mul-le-mul-right, lt-of-mul-lt-mul-right}
 use native.Mathlib.Nat.{mod-lt, mul-mod-left, div-add-mod', div-mul-le-self, lt-div-mul-add, div-eq-of-lt-le}
 use native.Mathlib.Omega.{arith}
@@ -65,6 +66,16 @@ shift-exact m b x v w e k p v' q w' ex hp hq =
       add-mul (q * 2 ^ (m + 8)) w' b,
       mul-assoc q (2 ^ (m + 8)) b,
     )
+
+module _ (m b e x v w : ℕ) (H : Holds m b e x v w) where
+  -- the v that a window holds is the one that it makes with the bytes to come
+  pub made-is : (w * b + x * 2 ^ e) / 2 ^ m ≡ v
+  made-is = ap (λ (i : ℕ). i / 2 ^ m) (sym (H .exact)) ∙ mul-div-cancel v (pow-pos m)
+
+  -- and the window is what is left of it without them
+  pub window-is : 0 < b → (v * 2 ^ m - x * 2 ^ e) / b ≡ w
+  window-is pos =
+      ap (λ (i : ℕ). (i - x * 2 ^ e) / b) (H .exact) ∙ ap (λ (i : ℕ). i / b) (add-sub-cancel (w * b) (x * 2 ^ e)) ∙ mul-div-cancel w pos
 
 module _ (m b e x v w : ℕ) (H : Holds m b e x v w) (bx : x < b) where
   -- the window compares with a split as V does

@@ -3,6 +3,7 @@
 pub mod Laws
 pub mod Stream
 pub mod Normal
+pub mod Picks
 pub mod Over
 pub mod Chain
 pub mod Each

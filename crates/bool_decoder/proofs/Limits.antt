@@ -8,10 +8,7 @@ use lib.Dec.{leb, ltb, eqb}
 use lib.ListN.{length}
 use borrow.Author.Tests.{ltb-false}
 use Rattle.rfc6386.specs.Decoder.{pick, refusalOf}
-use Rattle.bool_decoder.specs.Window.{Over}
-use Rattle.bool_decoder.specs.Model.{Good}
-use Rattle.bool_decoder.specs.Answer.{refusal}
-use Rattle.bool_decoder.specs.declared.BoolDecoder.{BoolDecoder}
+use Rattle.bool_decoder.specs.Engine.{Engine, boolsOf, Good, refusal}
 
 record Within (width wanted n : ℕ) : Type 0 where
   narrow : width ≤ 31
@@ -28,7 +25,7 @@ go w k n false false false false ew en z = record { narrow = ltb-false _ _ ew; f
 within : (size w k n : ℕ) → refusalOf size w k n ≡ 0 → Within w k n
 within size w k n z = go w k n (leb (2 ^ 28) size) (ltb 31 w) (eqb size 0 && ltb 0 k) (ltb 16777216 (n + k)) refl refl z
 
-pub allowed : {area : List ℕ} {d : BoolDecoder} (w k : ℕ) → Over area d → refusal area d w k ≡ 0 → (w ≤ 31) × Good area d k
-allowed {area} {d} w k o z =
-    let b = within (length area) w k (d .bools) z in
+pub allowed : {E : Engine} {area : List ℕ} {d : E .Dec} (w k : ℕ) → E .Over area d → refusal E area d w k ≡ 0 → (w ≤ 31) × Good E area d k
+allowed {E} {area} {d} w k o z =
+    let b = within (length area) w k (boolsOf E area d) z in
     (b .narrow, record { over = o; room = b .few })

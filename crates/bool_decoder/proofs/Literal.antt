@@ -1,4 +1,4 @@
--- A literal's loop: reading the bools that are left, from here, gives what reading all of them gives.
+-- A literal's loop, of any engine: reading the bools that are left, from here, gives what reading all of them gives.
 use mathlib.Core.Path.{_≡_, sym, ap, _∙_}
 use mathlib.Core.Bool.{Bool, true, false}
 use mathlib.Core.List.{List}
@@ -10,9 +10,7 @@ use lib.Dec.{lit<, lit≤}
 use lib.Signed.{mag}
 use Rattle.rfc6386.specs.Decoder.{bits, Out}
 use Rattle.rfc6386.specs.Reads.{run, flag, bit, litFrom, lit, signed}
-use Rattle.bool_decoder.specs.Window.{stateOf, Over}
-use Rattle.bool_decoder.specs.Model.{Good, Ran, Lit}
-use Rattle.bool_decoder.specs.declared.BoolDecoder.{BoolDecoder}
+use Rattle.bool_decoder.specs.Engine.{Engine, boolsOf, Good, Ran, Lit}
 use Rattle.rfc6386.proofs.Trees.{run-bind}
 
 pub bit-le : (b : Bool) → bit b ≤ 1
@@ -25,22 +23,22 @@ mag-signed true zero n h = h
 mag-signed true (suc m) n h = omega arith
 
 -- i of the w bools are read, and make v
-pub record Reading (area : List ℕ) (w : ℕ) (d₀ : BoolDecoder) (v : ℕ) (d : BoolDecoder) (i : ℕ) : Type 0 where
+pub record Reading (E : Engine) (area : List ℕ) (w : ℕ) (d₀ : E .Dec) (v : ℕ) (d : E .Dec) (i : ℕ) : Type 0 where
   pub count : i ≤ w
-  pub left : run (lit w) (bits area) (stateOf area d₀) ≡ run (litFrom (w - i) v) (bits area) (stateOf area d)
-  pub over : Over area d
-  pub most : d .bools ≤ d₀ .bools + i
+  pub left : run (lit w) (bits area) (E .stateOf area d₀) ≡ run (litFrom (w - i) v) (bits area) (E .stateOf area d)
+  pub over : E .Over area d
+  pub most : boolsOf E area d ≤ boolsOf E area d₀ + i
   pub small : v < 2 ^ i
 
-pub begin : (area : List ℕ) (w : ℕ) (d : BoolDecoder) → Over area d → Reading area w d 0 d 0
+pub begin : {E : Engine} (area : List ℕ) (w : ℕ) (d : E .Dec) → E .Over area d → Reading E area w d 0 d 0
 unfolding lit
 begin area w d o = record { count = omega arith; left = rw (sub-zero w); over = o; most = omega arith; small = lit< tt }
 
-module _ {area : List ℕ} {w : ℕ} {d₀ : BoolDecoder} {v : ℕ} {d : BoolDecoder} {i : ℕ} (R : Reading area w d₀ v d i) where
-  pub room : i < w → Good area d₀ w → Good area d 1
+module _ {E : Engine} {area : List ℕ} {w : ℕ} {d₀ : E .Dec} {v : ℕ} {d : E .Dec} {i : ℕ} (R : Reading E area w d₀ v d i) where
+  pub room : i < w → Good E area d₀ w → Good E area d 1
   room h g = record { over = R .over; room = omega (arith, R .most, g .room) }
 
-  pub turn : i < w → {b : Bool} {d' : BoolDecoder} → Ran flag area d b d' 1 → (y : ℕ) → y ≡ bit b → Reading area w d₀ (v * 2 + y) d' (i + 1)
+  pub turn : i < w → {b : Bool} {d' : E .Dec} → Ran E flag area d b d' 1 → (y : ℕ) → y ≡ bit b → Reading E area w d₀ (v * 2 + y) d' (i + 1)
   unfolding litFrom
   turn h {b} {d'} q y is =
       let k : ℕ = w - (i + 1) in
@@ -49,16 +47,16 @@ module _ {area : List ℕ} {w : ℕ} {d₀ : BoolDecoder} {v : ℕ} {d : BoolDec
       record {
         count = omega arith;
         left =
-            R .left ∙ ap (λ (x : ℕ). run (litFrom x v) (bits area) (stateOf area d)) one
-            ∙ run-bind flag (λ b. litFrom k (v * 2 + bit b)) (bits area) (stateOf area d)
+            R .left ∙ ap (λ (x : ℕ). run (litFrom x v) (bits area) (E .stateOf area d)) one
+            ∙ run-bind flag (λ b. litFrom k (v * 2 + bit b)) (bits area) (E .stateOf area d)
             ∙ ap (λ (o : Out Bool). run (litFrom k (v * 2 + bit (o .got))) (bits area) (o .then)) (q .is)
-            ∙ ap (λ (x : ℕ). run (litFrom k (v * 2 + x)) (bits area) (stateOf area d')) (sym is);
+            ∙ ap (λ (x : ℕ). run (litFrom k (v * 2 + x)) (bits area) (E .stateOf area d')) (sym is);
         over = q .over;
         most = omega (arith, R .most, q .most);
         small = omega (arith, R .small, is, bit-le b, two);
       }
 
-  pub end : w ≤ i → Lit area w d₀ v d
+  pub end : w ≤ i → Lit E area w d₀ v d
   unfolding litFrom run
   end h =
       let all : i ≡ w = omega (arith, R .count) in

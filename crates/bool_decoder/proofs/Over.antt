@@ -15,8 +15,9 @@ use Rattle.rfc6386.specs.Reads.{run, bool}
 use Rattle.bool_decoder.specs.Window.{rest, Holds, Held, vOf, stateOf, limitOf, Over}
 use Rattle.bool_decoder.specs.Model.{out, Good, Ran, Fresh}
 use Rattle.bool_decoder.specs.declared.BoolDecoder.{BoolDecoder}
-use Rattle.bool_decoder.proofs.Laws.{one-is, zero-is, v-below, whole-is, less, shift, take-byte}
+use Rattle.bool_decoder.proofs.Laws.{made-is, v-below, whole-is, less, shift, take-byte}
 use Rattle.bool_decoder.proofs.Normal.{normal-is, normal-high}
+use Rattle.bool_decoder.proofs.Picks.{counted, picks-one, picks-zero}
 use Rattle.bool_decoder.proofs.Stream.{rest-step, rest-lt}
 
 -- the limit is 128 or more, and above the window's whole part
@@ -35,7 +36,7 @@ limit-above w = omega (arith, picked (w / 2 ^ 56) (ltb (w / 2 ^ 56) 127) refl .1
 -- the v that a window holds is the one that it makes with the bytes to come
 pub value-is : (area : List ℕ) (c v w : ℕ) → Held area c v w → vOf area c w ≡ v
 unfolding vOf
-value-is area c v w H = ap (λ (i : ℕ). i / 2 ^ 56) (sym (H .exact)) ∙ mul-div-cancel v (pow-pos 56)
+value-is area c v w H = made-is 56 (2 ^ bits area) (c % 8) (rest area (c / 8 + 8)) v w H
 
 pub held-is : (area : List ℕ) (c v w : ℕ) → Held area c v w → Held area c (vOf area c w) w
 held-is area c v w H = rw (value-is area c v w H) H
@@ -104,13 +105,9 @@ module _ (area : List ℕ) (bytes : (i : ℕ) → getD area i 0 < 256) (c v w : 
         (take-byte 56 (2 ^ bits area) f (rest area t) (v * 2 ^ k % 2 ^ (bits area + 8)) (w * 2 ^ k % 2 ^ 64) (rw back moved) (omega arith)
         (getD area t 0) (rest area (t + 1)) (bytes t) (rest-step area t))
 
--- d's state with another range and v, and one bool more
-abbrev counted : BoolDecoder → ℕ → ℕ → State
-counted d r v = record { v = v; r = r; c = d .doublings; n = d .bools + 1 }
-
 -- before the doublings: the bool b is read, the range is r, and w holds v
 pub record Chosen (area : List ℕ) (d : BoolDecoder) (p : ℕ) (b : Bool) (r v w : ℕ) : Type 0 where
-  pub is : readBool (bits area) p (stateOf area d) ≡ out b (normal 7 (bits area) (counted d r v))
+  pub is : readBool (bits area) p (stateOf area d) ≡ out b (normal 7 (bits area) (counted (stateOf area d) r v))
   pub holds : Held area (d .doublings) v w
   pub high : r < 256
 
@@ -126,23 +123,20 @@ module _ {area : List ℕ} {d : BoolDecoder} (O : Over area d) (p : ℕ) {s : �
 
   -- g is the split where the window has V's whole part
   pub chosen-one : {g : ℕ} → g ≡ s * 2 ^ 56 → g ≤ d .value → Chosen area d p true (d .range - s) (v - s * 2 ^ bits area) (d .value - g)
-  unfolding readBool chosen
   chosen-one {g} e h =
       let k : s * 2 ^ 56 ≤ d .value = rw e at h in
-      let t : leb (s * 2 ^ bits area) v ≡ true =
-      le-leb _ _ (one-is 56 (2 ^ bits area) (d .doublings % 8) x v (d .value) (O .holds) below-one s k) in
       record {
-        is = rw (← is, t);
+        is = picks-one (bits area) p 56 (d .doublings % 8) x (d .value) (stateOf area d) (O .holds) below-one is k;
         holds = rw e (less 56 (2 ^ bits area) (d .doublings % 8) x v (d .value) (O .holds) below-one s (omega arith) k);
         high = omega (arith, O .high);
       }
 
   pub chosen-zero : {g : ℕ} → g ≡ s * 2 ^ 56 → d .value < g → Chosen area d p false s v (d .value)
-  unfolding readBool chosen
-  chosen-zero e h =
-      let t : leb (s * 2 ^ bits area) v ≡ false =
-      lt-leb _ _ (zero-is 56 (2 ^ bits area) (d .doublings % 8) x v (d .value) (O .holds) below-one s (omega arith) (rw e at h)) in
-      record { is = rw (← is, t); holds = O .holds; high = omega (arith, O .high) }
+  chosen-zero e h = record {
+    is = picks-zero (bits area) p 56 (d .doublings % 8) x (d .value) (stateOf area d) (O .holds) below-one is (omega arith) (rw e at h);
+    holds = O .holds;
+    high = omega (arith, O .high);
+  }
 
   -- a split of the limit or more is 128 or more, and above the window
   pub limit-is : d .limit ≤ s → (128 ≤ s) × (d .value < s * 2 ^ 56)
@@ -157,7 +151,7 @@ module _ {area : List ℕ} {d : BoolDecoder} (G : Good area d 1) {p : ℕ} {b : 
   holds-v = held-is area (d .doublings) v w (C .holds)
 
   -- the doublings end in this range and this v, which w' holds
-  lands : (c' v' : ℕ) {r' l' w' : ℕ} → normal 7 (bits area) (counted d r v) ≡ record { v = v'; r = r'; c = c'; n = d .bools + 1 }
+  lands : (c' v' : ℕ) {r' l' w' : ℕ} → normal 7 (bits area) (counted (stateOf area d) r v) ≡ record { v = v'; r = r'; c = c'; n = d .bools + 1 }
       → Held area c' v' w' → 128 ≤ r' → r' < 256 → c' ≤ d .doublings + 7 → l' ≡ limitOf w'
       → Ran (bool p) area d b (record { range = r'; limit = l'; value = w'; doublings = c'; bools = d .bools + 1 }) 1
   unfolding run bool
@@ -184,7 +178,7 @@ module _ {area : List ℕ} {d : BoolDecoder} (G : Good area d 1) {p : ℕ} {b : 
       let v' : ℕ = v * 2 ^ k % 2 ^ (bits area + 8) in
       let small = v-small area (G .over .bytes) (d .doublings) v w (C .holds) in
       lands (d .doublings + k) v'
-      (normal-is 7 (bits area) k (counted d r v) le lo hi small
+      (normal-is 7 (bits area) k (counted (stateOf area d) r v) le lo hi small
       ∙ (λ i. record { v = v'; r = sym is i; c = d .doublings + k; n = d .bools + 1 }))
       (rw (value-is area (d .doublings) v w (C .holds)) at H)
       (rw is lo) (rw is hi) (omega arith) limit
@@ -193,4 +187,4 @@ module _ {area : List ℕ} {d : BoolDecoder} (G : Good area d 1) {p : ℕ} {b : 
   pub as-it-is : 128 ≤ r → {l' : ℕ} → l' ≡ limitOf w
       → Ran (bool p) area d b (record { range = r; limit = l'; value = w; doublings = d .doublings; bools = d .bools + 1 }) 1
   as-it-is lo limit =
-      lands (d .doublings) v (normal-high 7 (bits area) (counted d r v) lo) (C .holds) lo (C .high) (omega arith) limit
+      lands (d .doublings) v (normal-high 7 (bits area) (counted (stateOf area d) r v) lo) (C .holds) lo (C .high) (omega arith) limit

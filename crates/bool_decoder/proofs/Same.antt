@@ -5,7 +5,7 @@ use mathlib.Core.Bool.{Bool}
 use mathlib.Core.List.{List}
 use lib.IntN.{ℤ}
 use Prim.Native.Nat.{ℕ, suc, _+_, _-_, _*_, _/_, _%_, _^_, _<_, _≤_}
-use native.Mathlib.Nat.{mul-div-cancel, add-sub-cancel, lt-of-not-le, le-antisymm, mul-assoc, mul-le-mul-left, pow-suc}
+use native.Mathlib.Nat.{lt-of-not-le, le-antisymm, mul-assoc, mul-le-mul-left, pow-suc}
 use native.Mathlib.Omega.{arith}
 use lib.Pow.{pow-pos, pow-mono}
 use Rattle.rfc6386.specs.Decoder.{State, Out, bits, position}
@@ -13,6 +13,7 @@ use Rattle.rfc6386.specs.Reads.{Rd}
 use Rattle.bool_decoder.specs.Window.{rest, stateOf, limitOf, Over}
 use Rattle.bool_decoder.specs.Model.{Ran, pastOf, Passed, Lit, Sgn, Fresh, Seen}
 use Rattle.bool_decoder.specs.Answer.{Allows, Refuses, BoolMeets, UintMeets, SintMeets}
+use Rattle.bool_decoder.proofs.Laws.{window-is}
 use Rattle.bool_decoder.specs.declared.BoolDecoder.{BoolDecoder}
 use Rattle.bool_decoder.specs.declared.BoolDecoderState.{BoolDecoderState}
 use Rattle.bool_decoder.specs.declared.Bit.{Bit}
@@ -38,21 +39,17 @@ abbrev decoderOf : List ℕ → State → BoolDecoder
 decoderOf area s =
     record { range = s .r; limit = limitOf (windowOf area s); value = windowOf area s; doublings = s .c; bools = s .n }
 
-window-is : (area : List ℕ) (d : BoolDecoder) → Over area d → windowOf area (stateOf area d) ≡ d .value
-window-is area d o =
-    let x : ℕ = rest area (d .doublings / 8 + 8) * 2 ^ (d .doublings % 8) in
-    ap (λ (k : ℕ). (k - x) / 2 ^ bits area) (o .holds .exact)
-    ∙ ap (λ (k : ℕ). k / 2 ^ bits area) (add-sub-cancel (d .value * 2 ^ bits area) x)
-    ∙ mul-div-cancel (d .value) (pow-pos (bits area))
-
 over-is : (area : List ℕ) (d : BoolDecoder) → Over area d → d ≡ decoderOf area (stateOf area d)
-over-is area d o = λ i. record {
-  range = d .range;
-  limit = (o .limit ∙ ap limitOf (sym (window-is area d o))) i;
-  value = sym (window-is area d o) i;
-  doublings = d .doublings;
-  bools = d .bools;
-}
+over-is area d o =
+    let s = stateOf area d in
+    let e = window-is 56 (2 ^ bits area) (s .c % 8) (rest area (s .c / 8 + 8)) (s .v) (d .value) (o .holds) (pow-pos (bits area)) in
+    λ i. record {
+      range = d .range;
+      limit = (o .limit ∙ ap limitOf (sym e)) i;
+      value = sym e i;
+      doublings = d .doublings;
+      bools = d .bools;
+    }
 
 pub same : {area : List ℕ} {d e : BoolDecoder} → Over area d → Over area e → stateOf area d ≡ stateOf area e → d ≡ e
 same {area} {d} {e} o p s = over-is area d o ∙ ap (decoderOf area) s ∙ sym (over-is area e p)

@@ -1,11 +1,9 @@
 -- What the bare decoder answers. For each case of an answer: the number of its refusal, or that nothing is refused, and what was read.
-use Prim.Native.Nat.{ℕ, _+_, _<_}
-use mathlib.Core.Path.{_≡_}
+use Prim.Native.Nat.{ℕ, _+_}
 use mathlib.Core.List.{List}
-use lib.ListN.{length}
-use Rattle.rfc6386.specs.Decoder.{refusalOf}
 use Rattle.rfc6386.specs.Reads.{Rd, bool, lit, sint}
-use Rattle.bool_decoder.specs.Model.{Passed}
+use Rattle.bool_decoder.specs.Engine as By
+use Rattle.bool_decoder.specs.Model.{window}
 use Rattle.bool_decoder.specs.declared.BoolDecoder.{BoolDecoder}
 use Rattle.bool_decoder.specs.declared.BoolAnswer.{BoolAnswer}
 use Rattle.bool_decoder.specs.declared.BoolAnswer.the-variants as B
@@ -14,20 +12,12 @@ use Rattle.bool_decoder.specs.declared.UintAnswer.the-variants as U
 use Rattle.bool_decoder.specs.declared.SintAnswer.{SintAnswer}
 use Rattle.bool_decoder.specs.declared.SintAnswer.the-variants as S
 
--- the refusal of a read of this width that wants so many bools, 0 for none
-abbrev pub refusal : List ℕ → BoolDecoder → ℕ → ℕ → ℕ
-refusal area d width wanted = refusalOf (length area) width wanted (d .bools)
+-- those of `Engine`, of the window
+abbrev pub Refuses : List ℕ → BoolDecoder → ℕ → ℕ → ℕ → Type 0
+Refuses area d width wanted number = By.Refuses window area d width wanted number
 
--- the read is refused by this number; the caller still has d
-pub record Refuses (area : List ℕ) (d : BoolDecoder) (width wanted number : ℕ) : Type 0 where
-  pub is : number ≡ refusal area d width wanted
-  pub some : 0 < number
-
--- nothing is refused, and the read m gives a, tells q bits past the end and leaves d'
-pub record Allows {A : Type 0} (m : Rd A) (area : List ℕ) (d : BoolDecoder) (width wanted : ℕ) (a : A) (q : ℕ) (d' : BoolDecoder)
-    : Type 0 where
-  pub free : refusal area d width wanted ≡ 0
-  pub read : Passed m area d a q d' wanted
+abbrev pub Allows : {A : Type 0} → Rd A → List ℕ → BoolDecoder → ℕ → ℕ → A → ℕ → BoolDecoder → Type 0
+Allows m area d width wanted a q d' = By.Allows window m area d width wanted a q d'
 
 abbrev pub BoolMeets : List ℕ → BoolDecoder → ℕ → BoolAnswer → Type 0
 BoolMeets area d p (B.Read r) = Allows (bool p) area d 1 1 (r .bit) (r .past) (r .dec)

@@ -160,7 +160,7 @@ fn digit(b: bool) -> u32
 }
 
 // A magnitude with its sign.
-fn signed_of(magnitude: u32, sign: bool) -> i32
+pub fn signed_of(magnitude: u32, sign: bool) -> i32
     requires { ⌜ magnitude < 2 ^ 31 ⌝ }
     ensures { λ r. ⌜ r ≡ signed sign magnitude ⌝ }
 {

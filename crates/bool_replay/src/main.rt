@@ -1,5 +1,7 @@
-// Replays a stored list of scripts (tests/fixed/README.md) on the bare decoder and compares the line of each with the stored one. It
-// tells the first differences, and at the end how many there are; a list that is not whole gets a line that says what is wrong.
+// Replays a stored list of scripts (tests/fixed/README.md) on the bare decoder, by both engines, and compares the line of each with the
+// stored one. It tells the first differences, and at the end how many there are; a list that is not whole gets a line that says what is
+// wrong.
+use bool_script::engines::Engine;
 use bool_script::input::Came;
 use lines::Number;
 use std::num::wrapping_add_u64;
@@ -43,29 +45,37 @@ fn tell(words: &[u8], n: u64, after: &[u8]) {
 }
 
 // Only the first twenty are told. Scripts are counted from 1.
-fn told(apart: u64, script: u64) {
+fn told(apart: u64, script: u64, engine: &[u8]) {
     if apart < 20 {
-        tell(b"apart: script ", script, b"\n");
+        tell(b"apart: script ", script, engine);
     }
 }
 
+// How many lines are apart, with the line of one engine.
+fn count(apart: u64, script: u64, same: bool, engine: &[u8]) -> u64 {
+    if same {
+        return apart;
+    }
+    told(apart, script, engine);
+    wrapping_add_u64(apart, 1)
+}
+
+fn same_line(area: &[u8], reads: &[u8], stored: &[u8], engine: Engine, out: &mut [u8]) -> bool {
+    let n = bool_script::line(area, reads, engine, out);
+    check::same(text::part(out, n), stored)
+}
+
 fn compare(tally: Tally, area: &[u8], reads: &[u8], stored: &[u8], out: &mut [u8]) -> Tally {
-    let n = bool_script::line(area, reads, out);
     let scripts = wrapping_add_u64(tally.scripts, 1);
     let operations = wrapping_add_u64(tally.operations, (reads.len() / 2) as u64);
-    if check::same(text::part(out, n), stored) {
-        return Tally {
-            scripts,
-            operations,
-            apart: tally.apart,
-            more: true,
-        };
-    }
-    told(tally.apart, scripts);
+    let window = same_line(area, reads, stored, Engine::Window, out);
+    let slow = same_line(area, reads, stored, Engine::Slow, out);
+    let apart = count(tally.apart, scripts, window, b", the window\n");
+    let apart = count(apart, scripts, slow, b", the slow engine\n");
     Tally {
         scripts,
         operations,
-        apart: wrapping_add_u64(tally.apart, 1),
+        apart,
         more: true,
     }
 }
@@ -134,7 +144,7 @@ fn numbered(tally: Tally, out: &mut [u8]) -> Tally {
 
 fn summary(tally: Tally) -> Tally {
     tell(b"", tally.scripts, b" scripts, ");
-    tell(b"", tally.operations, b" operations, ");
+    tell(b"", tally.operations, b" operations, by both engines, ");
     tell(b"", tally.apart, b" apart\n");
     ended(tally)
 }

@@ -1,50 +1,32 @@
--- What the bare decoder answers, in a script's words: a read that is allowed is the run of its tree, by one step of `make`; one that is
--- refused leaves the state.
-use Prim.Native.Nat.{ℕ, zero, suc, _<_}
-use native.Mathlib.Omega.{arith}
-use mathlib.Core.Path.{_≡_, refl, ap, sym, _∙_}
+-- A decoder of either engine answers as an engine does, by cases on which one it is; and where it is left.
+use Prim.Native.Nat.{ℕ}
+use mathlib.Core.Path.{_≡_, ap, sym}
 use mathlib.Core.List.{List}
-use Rattle.rfc6386.specs.Decoder.{State, Out, bits}
-use Rattle.rfc6386.specs.Reads.{Rd, ret, run, make}
-use Rattle.rfc6386.proofs.Trees.{run-bind}
-use Rattle.bool_decoder.specs.declared.BoolDecoder.{BoolDecoder}
-use Rattle.bool_decoder.specs.Answer.{Allows, Refuses}
-use Rattle.bool_decoder.specs.Model.{out, pastOf}
-use Rattle.bool_decoder.specs.Window.{stateOf, Over}
-use Rattle.bool_script.specs.Script.{orRefused, answered, Gives, Leaves, Ask}
-use Rattle.bool_script.specs.declared.Value.{Value}
-use Rattle.bool_script.specs.declared.Value.the-variants.{Refused}
+use Rattle.rfc6386.specs.Decoder.{Out}
+use Rattle.bool_decoder.specs.Engine as By
+use Rattle.bool_slow.specs.Asks as Asks
+use Rattle.bool_slow.specs.declared.bare.Value.{Value}
+use Rattle.bool_script.specs.Either.{either, Begins, Gives}
+use Rattle.bool_script.specs.Script.{Leaves}
+use Rattle.bool_script.specs.declared.engines.Decoder.{Decoder}
+use Rattle.bool_script.specs.declared.engines.Decoder.the-variants.{Window, Slow}
+use Rattle.bool_script.specs.declared.engines.Engine.{Engine}
+use Rattle.bool_script.specs.declared.engines.Engine.the-variants as E
 
-made : {A : Type 0} (f : A → Value) (m : Rd A) (l : ℕ) (s : State) {a : A} {t : State}
-    → run m l s ≡ out a t → run (make f m) l s ≡ out (f a) t
-unfolding make run
-made {A} f m l s e = run-bind m (λ x. ret (f x)) l s ∙ ap (λ (o : Out A). out (f (o .got)) (o .then)) e
+pub begins : (e : Engine) (area : List ℕ) (d : Decoder) → Begins e area d → By.Fresh either area d
+begins E.Window area (Window d) f = record { over = f .over; state = f .state; none = f .none }
+begins E.Window area (Slow d) f = absurd f
+begins E.Slow area (Window d) f = absurd f
+begins E.Slow area (Slow d) f = record { over = f .over; state = f .state; none = f .none }
 
-pub allowed : {A : Type 0} (f : A → Value) (m : Rd A) {area : List ℕ} {d : BoolDecoder} {width wanted : ℕ} {a : A} {q : ℕ}
-    {d' : BoolDecoder}
-    → Allows m area d width wanted a q d' → Gives area (record { width = width; wanted = wanted; tree = make f m }) d (f a) q d'
-unfolding answered
-allowed f m {area} {d} g = record {
-  is =
-      ap (λ (k : ℕ). orRefused k (stateOf area d) (run (make f m) (bits area) (stateOf area d))) (g .free)
-      ∙ made f m (bits area) (stateOf area d) (g .read .ran .is);
-  past = g .read .past;
-  over = g .read .ran .over;
-}
-
-some-refused : (k n : ℕ) (s : State) (o : Out Value) → n ≡ k → 0 < n → orRefused k s o ≡ out (Refused n) s
-some-refused zero n s o e h = absurd (omega (arith, e, h))
-some-refused (suc k) n s o e h = ap (λ (j : ℕ). out (Refused j) s) (sym e)
-
-pub refused : {area : List ℕ} {d : BoolDecoder} {width wanted n : ℕ} (m : Rd Value) → Over area d → Refuses area d width wanted n
-    → Gives area (record { width = width; wanted = wanted; tree = m }) d (Refused n) (pastOf area d) d
-unfolding answered
-refused {area} {d} {n} m o g = record {
-  is = some-refused _ n (stateOf area d) (run m (bits area) (stateOf area d)) (g .is) (g .some);
-  past = refl;
-  over = o;
-}
+pub given : (area : List ℕ) (a : Asks.Ask) (d : Decoder) (v : Value) (q : ℕ) (d' : Decoder) → Gives area a d v q d'
+    → Asks.Gives either area a d v q d'
+given area a (Window d) v q (Window d') g = record { is = g .is; past = g .past; over = g .over }
+given area a (Window d) v q (Slow d') g = absurd g
+given area a (Slow d) v q (Window d') g = absurd g
+given area a (Slow d) v q (Slow d') g = record { is = g .is; past = g .past; over = g .over }
 
 -- where a decoder that has answered is left
-pub leaves : {area : List ℕ} {a : Ask} {d : BoolDecoder} {v : Value} {q : ℕ} {d' : BoolDecoder} → Gives area a d v q d' → Leaves area a d d'
+pub leaves : {area : List ℕ} {a : Asks.Ask} {d : Decoder} {v : Value} {q : ℕ} {d' : Decoder} → Asks.Gives either area a d v q d'
+    → Leaves area a d d'
 leaves g = record { state = sym (ap (λ (o : Out Value). o .then) (g .is)); over = g .over }

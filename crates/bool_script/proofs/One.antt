@@ -1,20 +1,49 @@
--- Any two answers that the contract of `read` admits are equal: the value and the state are those of the definition, and a decoder over an
--- area is a function of its state.
+-- Any two answers that the contracts of `fresh` and `read` admit are equal, by cases on the engine, and for each by its own law.
 use mathlib.Core.Path.{_≡_, ap, sym, _∙_}
 use mathlib.Core.List.{List}
 use Prim.Native.Nat.{ℕ}
 use Rattle.rfc6386.specs.Decoder.{Out}
-use Rattle.bool_decoder.specs.declared.BoolDecoder.{BoolDecoder}
-use Rattle.bool_decoder.specs.Model.{pastOf}
-use Rattle.bool_decoder.proofs.Same.{same}
-use Rattle.bool_script.specs.Script.{Ask, Gives}
-use Rattle.bool_script.specs.declared.Value.{Value}
-use Rattle.bool_script.specs.declared.Answer.{Answer}
+use Rattle.bool_decoder.specs.Engine.{pastOf}
+use Rattle.bool_decoder.specs.Model.{window}
+use Rattle.bool_decoder.proofs.Same as W
+use Rattle.bool_slow.specs.Slow.{slow}
+use Rattle.bool_slow.proofs.Same as S
+use Rattle.bool_slow.specs.Asks.{Ask}
+use Rattle.bool_slow.specs.declared.bare.Value.{Value}
+use Rattle.bool_script.specs.Either.{Begins, Gives}
+use Rattle.bool_script.specs.declared.engines.Answer.{Answer}
+use Rattle.bool_script.specs.declared.engines.Decoder.{Decoder}
+use Rattle.bool_script.specs.declared.engines.Decoder.the-variants.{Window, Slow}
+use Rattle.bool_script.specs.declared.engines.Engine.{Engine}
+use Rattle.bool_script.specs.declared.engines.Engine.the-variants as E
 
-pub one-answer : {area : List ℕ} {a : Ask} {d : BoolDecoder} {r q : Answer}
-    → Gives area a d (r .value) (r .past) (r .dec) → Gives area a d (q .value) (q .past) (q .dec) → r ≡ q
-one-answer {area} p s =
-    let e = sym (p .is) ∙ s .is in
-    let left = same (p .over) (s .over) (ap (λ (o : Out Value). o .then) e) in
-    let beyond = p .past ∙ ap (pastOf area) left ∙ sym (s .past) in
-    λ i. record { value = e i .got; past = beyond i; dec = left i }
+pub one-fresh : (e : Engine) (area : List ℕ) (d c : Decoder) → Begins e area d → Begins e area c → d ≡ c
+one-fresh E.Window area (Window d) (Window c) p q = ap Window (W.same-fresh p q)
+one-fresh E.Window area (Window d) (Slow c) p q = absurd q
+one-fresh E.Window area (Slow d) c p q = absurd p
+one-fresh E.Slow area (Window d) c p q = absurd p
+one-fresh E.Slow area (Slow d) (Window c) p q = absurd q
+one-fresh E.Slow area (Slow d) (Slow c) p q = ap Slow (S.same-fresh p q)
+
+module _ (area : List ℕ) (a : Ask) where
+  -- by cases on the decoder that was asked and on the two that are left
+  both : (d e f : Decoder) {v w : Value} {q t : ℕ} → Gives area a d v q e → Gives area a d w t f
+      → _≡_ {A = Answer} (record { value = v; past = q; dec = e }) (record { value = w; past = t; dec = f })
+  both (Window d) (Window e) (Window f) p s =
+      let o = sym (p .is) ∙ s .is in
+      let left = W.same (p .over) (s .over) (ap (λ (x : Out Value). x .then) o) in
+      let beyond = p .past ∙ ap (pastOf window area) left ∙ sym (s .past) in
+      λ i. record { value = o i .got; past = beyond i; dec = Window (left i) }
+  both (Window d) (Window e) (Slow f) p s = absurd s
+  both (Window d) (Slow e) f p s = absurd p
+  both (Slow d) (Window e) f p s = absurd p
+  both (Slow d) (Slow e) (Window f) p s = absurd s
+  both (Slow d) (Slow e) (Slow f) p s =
+      let o = sym (p .is) ∙ s .is in
+      let left = S.same (p .over) (s .over) (ap (λ (x : Out Value). x .then) o) in
+      let beyond = p .past ∙ ap (pastOf slow area) left ∙ sym (s .past) in
+      λ i. record { value = o i .got; past = beyond i; dec = Slow (left i) }
+
+  pub one-answer : (d : Decoder) (r q : Answer) → Gives area a d (r .value) (r .past) (r .dec)
+      → Gives area a d (q .value) (q .past) (q .dec) → r ≡ q
+  one-answer d r q = both d (r .dec) (q .dec)

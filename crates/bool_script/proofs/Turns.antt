@@ -10,21 +10,22 @@ use lib.ListN.{length, getD, drop, drop-of-length-le}
 use lib.Seq.{drop-cons}
 use borrow.Author.Tests.{ne-eqb}
 use Rattle.rfc6386.specs.Decoder.{State, bits, start}
-use Rattle.bool_decoder.specs.declared.BoolDecoder.{BoolDecoder}
-use Rattle.bool_decoder.specs.Model.{Fresh}
-use Rattle.bool_decoder.specs.Window.{stateOf, Over}
+use Rattle.bool_decoder.specs.Engine.{Fresh}
+use Rattle.bool_slow.specs.Asks.{answered}
 use Rattle.text.specs.Text.{Text, text, puts}
 use Rattle.text.proofs.Puts.{puts-append}
-use Rattle.bool_script.specs.Script.{askOf, answered, Leaves}
+use Rattle.bool_script.specs.Either.{stateOf, Over, either}
+use Rattle.bool_script.specs.Script.{askOf, Leaves}
+use Rattle.bool_script.specs.declared.engines.Decoder.{Decoder}
 use Rattle.bool_script.specs.Line.{readText, gapText, endText, lineFrom, lineOf}
 
-pub record Turn (area reads out₀ : List ℕ) (out : List ℕ) (d : BoolDecoder) (at i : ℕ) : Type 0 where
+pub record Turn (area reads out₀ : List ℕ) (out : List ℕ) (d : Decoder) (at i : ℕ) : Type 0 where
   pub count : i ≤ length reads
   pub size : length out ≡ length out₀
   pub over : Over area d
   pub same : puts (text out at) (lineFrom area (eqb i 0) (drop i reads) (stateOf area d)) ≡ puts (text out₀ 0) (lineOf area reads)
 
-pub begin : {area reads out : List ℕ} {d : BoolDecoder} → Fresh area d → Turn area reads out out d 0 0
+pub begin : {area reads out : List ℕ} {d : Decoder} → Fresh either area d → Turn area reads out out d 0 0
 unfolding lineOf
 begin {area} {reads} {out} f = record {
   count = omega arith;
@@ -46,8 +47,8 @@ pieces t a b c {u} p q =
     ap (λ (w : Text). puts w c) (q ∙ ap (λ (w : Text). puts w b) p)
     ∙ sym (puts-append t a (b ++ c) ∙ puts-append (puts t a) b c)
 
-pub turn : {area reads out₀ out : List ℕ} {d : BoolDecoder} {at i : ℕ} {out₁ : List ℕ} {at₁ : ℕ} {out₂ : List ℕ} {at₂ : ℕ}
-    {d' : BoolDecoder}
+pub turn : {area reads out₀ out : List ℕ} {d : Decoder} {at i : ℕ} {out₁ : List ℕ} {at₁ : ℕ} {out₂ : List ℕ} {at₂ : ℕ}
+    {d' : Decoder}
     → Turn area reads out₀ out d at i → i + 1 < length reads → length out₁ ≡ length out → length out₂ ≡ length out₁
     → text out₁ at₁ ≡ puts (text out at) (gapText (eqb i 0))
     → Leaves area (askOf (getD reads i 0) (getD reads (i + 1) 0)) d d'
@@ -77,6 +78,6 @@ last area b [] s h = refl
 last area b (k ∷ []) s h = refl
 last area b (k ∷ (n ∷ reads)) s h = absurd (omega (arith, h))
 
-pub end : {area reads out₀ out : List ℕ} {d : BoolDecoder} {at i : ℕ} → Turn area reads out₀ out d at i → length (drop i reads) < 2
+pub end : {area reads out₀ out : List ℕ} {d : Decoder} {at i : ℕ} → Turn area reads out₀ out d at i → length (drop i reads) < 2
     → puts (text out at) (endText (bits area) (stateOf area d)) ≡ puts (text out₀ 0) (lineOf area reads)
 end {area} {reads} {out} {d} {at} {i} t h = sym (ap (puts (text out at)) (last area (eqb i 0) (drop i reads) (stateOf area d) h)) ∙ t .same

@@ -7,9 +7,10 @@ use Rattle.rfc6386.specs.Decoder.{State, Out, bits, start, whole, countOf, posi
 use Rattle.rfc6386.specs.Reads.{bit}
 use Rattle.text.specs.Digits.{decimalOf, signedOf}
 use Rattle.text.specs.Template.{ascii, filled}
-use Rattle.bool_script.specs.Script.{askOf, answered}
-use Rattle.bool_script.specs.declared.Value.{Value}
-use Rattle.bool_script.specs.declared.Value.the-variants.{Bit, Plain, Signed, Refused}
+use Rattle.bool_slow.specs.Asks.{answered}
+use Rattle.bool_slow.specs.declared.bare.Value.{Value}
+use Rattle.bool_slow.specs.declared.bare.Value.the-variants.{Bit, Plain, Signed, Refused}
+use Rattle.bool_script.specs.Script.{askOf}
 
 -- a value in decimal; `r` and the number of a refusal
 unfoldable pub valueText : Value → List ℕ

@@ -1,8 +1,10 @@
--- A bar, and the numbers that the snapshot, the position and the bits past the end show.
+-- A bar, and the numbers that the decoder shows.
 use Prim.Native.Nat.{ℕ}
 use mathlib.Core.Path.{_≡_}
 use mathlib.Core.List.{List, [], _∷_, _++_}
-use Rattle.rfc6386.specs.Decoder.{State, whole, countOf, position, past}
+use Rattle.rfc6386.specs.Decoder.{State}
+use Rattle.bool_slow.specs.Told.{shownOf}
+use Rattle.bool_slow.specs.declared.Shown.{Shown}
 use Rattle.text.specs.Template.{ascii, filled}
 use Rattle.text.proofs.Puts.{then, worded}
 use Rattle.bool_script.specs.Line.{endText}
@@ -10,13 +12,13 @@ use borrow.Author.Needs.{needs}
 use Rattle.bool_script.proofs.finish.Statement.{statement}
 use Rattle.bool_script.proofs.finish.Tie as tie
 
-end-text : (l : ℕ) (s : State) (r v n at q : ℕ) → r ≡ s .r → v ≡ whole l s → n ≡ countOf s → at ≡ position l s → q ≡ past l s
-    → ascii " |" ++ filled (ascii " | | | | |") (r ∷ v ∷ n ∷ at ∷ q ∷ []) ≡ endText l s
+end-text : (l : ℕ) (s : State) (n : Shown) → n ≡ shownOf l s
+    → ascii " |" ++ filled (ascii " | | | | |") (n .range ∷ n .value ∷ n .count ∷ n .position ∷ n .past ∷ []) ≡ endText l s
 unfolding endText
-end-text l s r v n at q a b c d e = rw (a, b, c, d, e)
+end-text l s n e = rw e
 
-snapshot-requires : tie.Need-snapshot-requires
-snapshot-requires c κs = search needs
+shown-requires : tie.Need-shown-requires
+shown-requires c κs = search needs
 
 cast-t10 : tie.Need-cast-t10
 cast-t10 c = search needs
@@ -26,12 +28,6 @@ cast-t11 c = search needs
 
 cast-t12 : tie.Need-cast-t12
 cast-t12 c = search needs
-
-pos-requires : tie.Need-pos-requires
-pos-requires c κs = search needs
-
-past-requires : tie.Need-past-requires
-past-requires c κs = search needs
 
 slice-aggregate-bytes : tie.Need-slice-aggregate-bytes
 slice-aggregate-bytes c = search needs
@@ -55,22 +51,17 @@ returns : tie.Need-returns
 returns c =
     let at-fill = c .before .before in
     let at-bytes = at-fill .before .before .before .before .before .before in
-    let at-past = at-bytes .before .before .before in
-    let at-pos = at-past .before in
-    let seen = at-pos .before .before .before .before .snapshot .ensures in
-    worded _ _ _ _ (then _ _ _ _ _ (at-bytes .bytes .ensures) (at-fill .fill .ensures))
-    (end-text _ _ _ _ _ _ _ (seen .range) (seen .value) (seen .count) (at-pos .pos .ensures) (at-past .past .ensures))
+    let at-shown = at-bytes .before .before .before .before .before .before in
+    worded _ _ _ _ (then _ _ _ _ _ (at-bytes .bytes .ensures) (at-fill .fill .ensures)) (end-text _ _ _ (at-shown .shown .ensures))
 
 pub finish-spec : {M : Type 1} → statement M
 finish-spec =
     tie.close
     (tie.spec
-    snapshot-requires
+    shown-requires
     cast-t10
     cast-t11
     cast-t12
-    pos-requires
-    past-requires
     slice-aggregate-bytes
     bytes-requires
     slice-aggregate-fill

@@ -3,6 +3,7 @@ use Prim.Native.Nat.{_-_, _<_}
 use native.Mathlib.Omega.{arith}
 use mathlib.Core.Path.{_≡_, _∙_}
 use lib.ListN.{length, drop, length-drop}
+use Rattle.bool_script.proofs.Answers.{begins}
 use Rattle.bool_script.proofs.Turns.{Turn, begin, turn, end}
 use borrow.Author.Needs.{needs}
 use Rattle.bool_script.proofs.line.Statement.{statement}
@@ -14,11 +15,13 @@ Inv-loop area reads out₀ dec₀ at₀ i₀ out dec at i = Turn area reads out�
 abbrev μ-loop : tie.MeasureT-loop
 μ-loop area reads out₀ dec₀ at₀ i₀ out dec at i = length reads - i
 
-new-requires : tie.Need-new-requires Inv-loop μ-loop
-new-requires c κs = search needs
+fresh-requires : tie.Need-fresh-requires Inv-loop μ-loop
+fresh-requires c κs = search needs
 
 loop-holds : tie.Need-loop-holds Inv-loop μ-loop
-loop-holds c = begin (c .new .ensures)
+loop-holds c =
+    let a = c .before .before .before .before .args in
+    begin (begins (a .engine) (a .area .now) (c .fresh .result) (c .fresh .ensures))
 
 add-loop : tie.Need-add-loop Inv-loop μ-loop
 add-loop c = search needs
@@ -48,7 +51,7 @@ loop-less c = search needs
 
 loop-again : tie.Need-loop-again Inv-loop μ-loop
 loop-again c =
-    let at-step = c .before .before .before in
+    let at-step = c .before .before in
     let at-gap = at-step .before .before .before .before .before .before in
     let at-turn = at-gap .before .before in
     let s = at-step .step in
@@ -78,7 +81,7 @@ line-spec =
     (tie.spec
     Inv-loop
     μ-loop
-    new-requires
+    fresh-requires
     loop-holds
     add-loop
     gap-requires

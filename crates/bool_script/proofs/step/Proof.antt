@@ -7,9 +7,11 @@ use Rattle.rfc6386.specs.Decoder.{State, Out, position, past}
 use Rattle.bool_decoder.specs.Model.{out}
 use Rattle.text.specs.Template.{ascii, filled}
 use Rattle.text.proofs.Puts.{then, worded}
+use Rattle.bool_script.specs.Script.{askOf}
 use Rattle.bool_script.specs.Line.{valueText, readText}
-use Rattle.bool_script.specs.declared.Value.{Value}
-use Rattle.bool_script.proofs.Answers.{leaves}
+use Rattle.bool_slow.specs.declared.bare.Value.{Value}
+use Rattle.bool_slow.specs.declared.Shown.{Shown}
+use Rattle.bool_script.proofs.Answers.{given, leaves}
 use borrow.Author.Needs.{needs}
 use Rattle.bool_script.proofs.step.Statement.{statement}
 use Rattle.bool_script.proofs.step.Tie as tie
@@ -25,8 +27,12 @@ read-requires c κs = search needs
 tell-requires : tie.Need-tell-requires
 tell-requires c κs = search needs
 
-pos-requires : tie.Need-pos-requires
-pos-requires c κs = search needs
+shown-requires : tie.Need-shown-requires
+shown-requires c κs =
+    let at-read = c .before .before .before .before in
+    let a = at-read .before .before .before .args in
+    let r = at-read .read .result in
+    given (a .area .now) (askOf (a .kind) (a .number)) (a .dec) (r .value) (r .past) (r .dec) (at-read .read .ensures) .over
 
 slice-aggregate-fill : tie.Need-slice-aggregate-fill
 slice-aggregate-fill c = search needs
@@ -43,12 +49,12 @@ same-length c = search needs
 returns : tie.Need-returns
 returns c =
     let at-fill = c .before .before in
-    let at-pos = at-fill .before .before .before .before in
-    let at-tell = at-pos .before .before .before in
-    let read = at-tell .before .before .before .read .ensures in (
+    let at-shown = at-fill .before .before .before .before in
+    let at-tell = at-shown .before .before .before in
+    let read = given _ _ _ _ _ _ (at-tell .before .before .read .ensures) in (
       leaves read,
       worded _ _ _ _ (then _ _ _ _ _ (at-tell .tell .ensures) (at-fill .fill .ensures))
-          (read-text _ _ _ _ _ _ (read .is) (at-pos .pos .ensures) (read .past)),
+          (read-text _ _ _ _ _ _ (read .is) (ap (λ (s : Shown). s .position) (at-shown .shown .ensures)) (read .past)),
     )
 
 pub step-spec : {M : Type 1} → statement M
@@ -57,7 +63,7 @@ step-spec =
     (tie.spec
     read-requires
     tell-requires
-    pos-requires
+    shown-requires
     slice-aggregate-fill
     slice-aggregate-fill-2
     fill-requires

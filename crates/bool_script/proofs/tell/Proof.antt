@@ -7,8 +7,8 @@ use lib.IntN.{ℤ}
 use Rattle.text.specs.Digits.{digitsOf, decimalOf, signedOf}
 use Rattle.text.proofs.Puts.{one, then, worded}
 use Rattle.bool_script.specs.Line.{valueText}
-use Rattle.bool_script.specs.declared.Value.{Value}
-use Rattle.bool_script.specs.declared.Value.the-variants.{Bit, Plain, Signed, Refused}
+use Rattle.bool_slow.specs.declared.bare.Value.{Value}
+use Rattle.bool_slow.specs.declared.bare.Value.the-variants.{Bit, Plain, Signed, Refused}
 use borrow.Author.Needs.{needs}
 use Rattle.bool_script.proofs.tell.Statement.{statement}
 use Rattle.bool_script.proofs.tell.Tie as tie

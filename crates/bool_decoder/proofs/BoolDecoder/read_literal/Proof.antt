@@ -3,12 +3,13 @@ use Prim.Native.Nat.{_-_}
 use native.Mathlib.Omega.{arith}
 use lib.Pow.{pow-mono}
 use borrow.Author.Needs.{needs}
+use Rattle.bool_decoder.specs.Model.{window}
 use Rattle.bool_decoder.proofs.Literal.{bit-le, Reading, begin, room, turn, end}
 use Rattle.bool_decoder.proofs.BoolDecoder.read_literal.Statement.{statement}
 use Rattle.bool_decoder.proofs.BoolDecoder.read_literal.Tie as tie
 
 abbrev Inv-loop : tie.InvT-loop
-Inv-loop area nbits value₀ dec₀ counter₀ value dec counter = Reading area nbits dec₀ value dec counter
+Inv-loop area nbits value₀ dec₀ counter₀ value dec counter = Reading window area nbits dec₀ value dec counter
 
 abbrev μ-loop : tie.MeasureT-loop
 μ-loop area nbits value₀ dec₀ counter₀ value dec counter = nbits - counter

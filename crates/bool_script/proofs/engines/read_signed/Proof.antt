@@ -2,10 +2,10 @@
 use mir.Syntax.{w32}
 use mir.Facts.{toZ-ofZ}
 use borrow.Author.Needs.{needs}
-use Rattle.bool_script.specs.declared.Value.the-variants.{Signed}
-use Rattle.bool_script.proofs.Answers.{allowed, refused}
-use Rattle.bool_script.proofs.read_signed.Statement.{statement}
-use Rattle.bool_script.proofs.read_signed.Tie as tie
+use Rattle.bool_slow.specs.declared.bare.Value.the-variants.{Signed}
+use Rattle.bool_slow.proofs.Answers.{allowed, refused}
+use Rattle.bool_script.proofs.engines.read_signed.Statement.{statement}
+use Rattle.bool_script.proofs.engines.read_signed.Tie as tie
 
 read-sint-requires : tie.Need-read-sint-requires
 read-sint-requires c κs = search needs

@@ -1,9 +1,9 @@
 -- Each case of the answer is passed on, by the two laws of `Answers`.
 use borrow.Author.Needs.{needs}
-use Rattle.bool_script.specs.declared.Value.the-variants.{Bit}
-use Rattle.bool_script.proofs.Answers.{allowed, refused}
-use Rattle.bool_script.proofs.read_bool.Statement.{statement}
-use Rattle.bool_script.proofs.read_bool.Tie as tie
+use Rattle.bool_slow.specs.declared.bare.Value.the-variants.{Bit}
+use Rattle.bool_slow.proofs.Answers.{allowed, refused}
+use Rattle.bool_script.proofs.engines.read_bool.Statement.{statement}
+use Rattle.bool_script.proofs.engines.read_bool.Tie as tie
 
 read-bool-with-prob-requires : tie.Need-read-bool-with-prob-requires
 read-bool-with-prob-requires c κs = search needs

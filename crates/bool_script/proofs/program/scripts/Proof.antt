@@ -3,14 +3,14 @@
 use mathlib.Core.Path.{_≡_, refl}
 use lib.ListN.{length}
 use borrow.Author.Needs.{needs}
-use Rattle.bool_dump.proofs.scripts.Statement.{statement}
-use Rattle.bool_dump.proofs.scripts.Tie as tie
+use Rattle.bool_script.proofs.program.scripts.Statement.{statement}
+use Rattle.bool_script.proofs.program.scripts.Tie as tie
 
 abbrev Inv-loop : tie.InvT-loop
-Inv-loop out₀ left₀ out left = length out ≡ length out₀
+Inv-loop engine out₀ left₀ out left = length out ≡ length out₀
 
 abbrev μ-loop : tie.MeasureT-loop
-μ-loop out₀ left₀ out left = left
+μ-loop engine out₀ left₀ out left = left
 
 loop-holds : tie.Need-loop-holds Inv-loop μ-loop
 loop-holds c = refl

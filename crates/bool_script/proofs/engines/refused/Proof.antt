@@ -1,7 +1,7 @@
 -- The bits past the end are the decoder's own.
 use borrow.Author.Needs.{needs}
-use Rattle.bool_script.proofs.refused.Statement.{statement}
-use Rattle.bool_script.proofs.refused.Tie as tie
+use Rattle.bool_script.proofs.engines.refused.Statement.{statement}
+use Rattle.bool_script.proofs.engines.refused.Tie as tie
 
 past-requires : tie.Need-past-requires
 past-requires c κs = search needs

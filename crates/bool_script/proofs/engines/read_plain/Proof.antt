@@ -1,9 +1,9 @@
 -- Each case of the answer is passed on, by the two laws of `Answers`.
 use borrow.Author.Needs.{needs}
-use Rattle.bool_script.specs.declared.Value.the-variants.{Plain}
-use Rattle.bool_script.proofs.Answers.{allowed, refused}
-use Rattle.bool_script.proofs.read_plain.Statement.{statement}
-use Rattle.bool_script.proofs.read_plain.Tie as tie
+use Rattle.bool_slow.specs.declared.bare.Value.the-variants.{Plain}
+use Rattle.bool_slow.proofs.Answers.{allowed, refused}
+use Rattle.bool_script.proofs.engines.read_plain.Statement.{statement}
+use Rattle.bool_script.proofs.engines.read_plain.Tie as tie
 
 read-uint-requires : tie.Need-read-uint-requires
 read-uint-requires c κs = search needs
