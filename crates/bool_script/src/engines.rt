@@ -3,9 +3,9 @@ use bool_decoder::BoolAnswer;
 use bool_decoder::BoolDecoder;
 use bool_decoder::SintAnswer;
 use bool_decoder::UintAnswer;
-use bool_slow::Shown;
 use bool_slow::SlowDecoder;
 use bool_slow::bare;
+use bool_slow::bare::Shown;
 use bool_slow::bare::Value;
 ghost use mathlib.Core.Path.{_≡_};
 ghost use Rattle.rfc6386.specs.Decoder.{bits};
@@ -76,7 +76,7 @@ pub fn shown(area: &[u8], dec: Decoder) -> Shown
 {
     match dec {
         Decoder::Window(d) => window_shown(area, d),
-        Decoder::Slow(d) => d.shown(area),
+        Decoder::Slow(d) => bare::shown_by(area, d),
     }
 }
 

@@ -11,7 +11,7 @@ use Rattle.bool_decoder.specs.Model as W
 use Rattle.bool_decoder.specs.Window.{Over}
 use Rattle.bool_decoder.specs.declared.BoolDecoder.{BoolDecoder}
 use Rattle.bool_slow.specs.declared.SlowDecoder.{SlowDecoder}
-use Rattle.bool_slow.specs.declared.Shown.{Shown}
+use Rattle.bool_slow.specs.declared.bare.Shown.{Shown}
 use Rattle.bool_slow.specs.declared.bare.Value.{Value}
 use Rattle.bool_slow.specs.declared.bare.Value.the-variants.{Bit, Plain, Signed, Refused}
 use Rattle.bool_slow.specs.Asks.{Ask, answered, Gives}

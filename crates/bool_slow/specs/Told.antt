@@ -17,7 +17,7 @@ use Rattle.bool_decoder.specs.declared.SintAnswer.the-variants as S
 use Rattle.bool_slow.specs.Asks.{Ask, askBool, askPlain, askSigned, answered, Gives}
 use Rattle.bool_slow.specs.declared.bare.Value.{Value}
 use Rattle.bool_slow.specs.declared.bare.Value.the-variants.{Bit, Plain, Signed, Refused}
-use Rattle.bool_slow.specs.declared.Shown.{Shown}
+use Rattle.bool_slow.specs.declared.bare.Shown.{Shown}
 
 -- what the definition shows of a state
 abbrev pub shownOf : ℕ → State → Shown

@@ -1,12 +1,13 @@
-// The slow decoder by itself: each read tests the limits first, and refuses before any bool is read. A refused read leaves the decoder as
-// it was. The one premise of a read: the decoder is fresh, or was left by reads over the same area.
+// The slow decoder as a caller has it: each read tests the limits first and refuses before any bool is read, which leaves the decoder as it
+// was; and what a decoder shows. The one premise: the decoder is fresh, or was left by reads over the same area.
 use crate::SlowDecoder;
 ghost use mathlib.Core.Path.{_≡_};
-ghost use Prim.Native.Nat.{_+_, _≤_};
-ghost use Rattle.rfc6386.specs.Decoder.{refusalOf};
-ghost use Rattle.bool_slow.specs.Hand.{Over};
+ghost use Prim.Native.Nat.{_+_, _≤_, min};
+ghost use Rattle.rfc6386.specs.Decoder.{bits, refusalOf};
+ghost use Rattle.bool_slow.specs.Hand.{Over, stateOf};
 ghost use Rattle.bool_slow.specs.Asks.{askBool, askPlain, askSigned};
 ghost use Rattle.bool_slow.specs.Slow.{Gives, answerOf};
+ghost use Rattle.bool_slow.specs.Told.{shownOf};
 
 // What a read gave.
 pub enum Value {
@@ -30,23 +31,66 @@ pub struct Answer {
     pub dec: SlowDecoder,
 }
 
-// The number of the refusal, 0 for none: 2 ^ 28 bytes or more, a width above 31, nothing to read from, too many bools. A signed literal
-// wants one bool beside its width.
+// What the outside may see of a decoder.
+pub struct Shown {
+    // In bits; it stops at the area's end.
+    pub position: u32,
+    // In bits: how far beyond that end the decoder has gone.
+    pub past: u32,
+    // The snapshot: the range, the byte before the point, and how many bits of the byte that is being read are left.
+    pub range: u8,
+    pub value: u8,
+    pub count: u8,
+    // How many bools were read.
+    pub bools: u32,
+}
+
+// A number of bits, or the area's end where that comes before it.
+fn stopped(doublings: u32, area: &[u8]) -> u32
+    ensures { λ r. ⌜ r ≡ min doublings (bits (now (area .entry))) ⌝ }
+{
+    if ((doublings / 8) as usize) < area.len() {
+        doublings
+    } else {
+        (area.len() * 8) as u32
+    }
+}
+
+// The count follows the doublings, even where the position has stopped.
+pub fn shown_by(area: &[u8], dec: SlowDecoder) -> Shown
+    requires { ⌜ Over (now area) dec ⌝ }
+    ensures { λ r. ⌜ r ≡ shownOf (bits (now (area .entry))) (stateOf (now (area .entry)) dec) ⌝ }
+{
+    // Eight doublings for each byte fetched after the first two, and those since.
+    let doublings = 8 * (dec.input - 2) + dec.bit_count;
+    let position = stopped(doublings, area);
+    Shown {
+        position,
+        past: doublings - position,
+        range: dec.range as u8,
+        value: (dec.value / 256) as u8,
+        count: ((8 - doublings % 8) % 8) as u8,
+        bools: dec.bools,
+    }
+}
+
+// The number of the refusal, 0 for none: too large an area, too wide a literal, nothing to read from, too many bools. A signed literal wants
+// one bool beside its width.
 fn refusal(size: usize, width: u32, extra: u32, bools: u32) -> u32
     requires { ⌜ (extra ≤ 1) × (bools ≤ 16777216) ⌝ }
     ensures { λ r. ⌜ r ≡ refusalOf size width (width + extra) bools ⌝ }
 {
-    if 268435456 <= size {
+    if SlowDecoder::AREA_LIMIT <= size {
         return 6;
     }
-    if 31 < width {
+    if SlowDecoder::WIDEST < width {
         return 7;
     }
     let wanted = width + extra;
     if size == 0 && 0 < wanted {
         return 4;
     }
-    if 16777216 < bools + wanted {
+    if SlowDecoder::MOST_BOOLS < bools + wanted {
         return 8;
     }
     0
@@ -57,10 +101,10 @@ fn told(area: &[u8], dec: SlowDecoder, value: Value) -> Answer
     requires { ⌜ Over (now area) dec ⌝ }
     ensures { λ r. ⌜ r ≡ answerOf (now (area .entry)) dec value ⌝ }
 {
-    let shown = dec.shown(area);
+    let seen = shown_by(area, dec);
     Answer {
         value,
-        past: shown.past,
+        past: seen.past,
         dec,
     }
 }

@@ -4,7 +4,7 @@ use mathlib.Core.Path.{_≡_}
 use mathlib.Core.List.{List, [], _∷_, _++_}
 use Rattle.rfc6386.specs.Decoder.{State}
 use Rattle.bool_slow.specs.Told.{shownOf}
-use Rattle.bool_slow.specs.declared.Shown.{Shown}
+use Rattle.bool_slow.specs.declared.bare.Shown.{Shown}
 use Rattle.text.specs.Template.{ascii, filled}
 use Rattle.text.proofs.Puts.{then, worded}
 use Rattle.bool_script.specs.Line.{endText}

@@ -10,7 +10,7 @@ use Rattle.text.proofs.Puts.{then, worded}
 use Rattle.bool_script.specs.Script.{askOf}
 use Rattle.bool_script.specs.Line.{valueText, readText}
 use Rattle.bool_slow.specs.declared.bare.Value.{Value}
-use Rattle.bool_slow.specs.declared.Shown.{Shown}
+use Rattle.bool_slow.specs.declared.bare.Shown.{Shown}
 use Rattle.bool_script.proofs.Answers.{given, leaves}
 use borrow.Author.Needs.{needs}
 use Rattle.bool_script.proofs.step.Statement.{statement}

@@ -12,14 +12,14 @@ window-shown-requires c κs = rw (c .before .dec .given .1) at (c .before .befor
 enum-known-dec-2 : tie.Need-enum-known-dec-2
 enum-known-dec-2 c = search needs
 
-shown-requires : tie.Need-shown-requires
-shown-requires c κs = rw (c .before .dec2 .given .1) at (c .before .before .before .before .pre)
+shown-by-requires : tie.Need-shown-by-requires
+shown-by-requires c κs = rw (c .before .dec2 .given .1) at (c .before .before .before .before .pre)
 
 returns : tie.Need-returns
 returns c = rw (c .before .before .dec .given .1) (c .window-shown .ensures)
 
 returns-2 : tie.Need-returns-2
-returns-2 c = rw (c .before .before .dec2 .given .1) (c .shown .ensures)
+returns-2 c = rw (c .before .before .dec2 .given .1) (c .shown-by .ensures)
 
 pub shown-spec : {M : Type 1} → statement M
 shown-spec =
@@ -28,6 +28,6 @@ shown-spec =
     enum-known-dec
     window-shown-requires
     enum-known-dec-2
-    shown-requires
+    shown-by-requires
     returns
     returns-2)

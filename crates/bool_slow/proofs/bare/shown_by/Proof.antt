@@ -7,8 +7,8 @@ use Rattle.rfc6386.specs.Decoder.{bits, whole, countOf, position, past}
 use Rattle.bool_slow.specs.Hand.{doublingsOf, stateOf}
 use Rattle.bool_slow.proofs.Hand.{whole-part}
 use borrow.Author.Needs.{needs}
-use Rattle.bool_slow.proofs.SlowDecoder.shown.Statement.{statement}
-use Rattle.bool_slow.proofs.SlowDecoder.shown.Tie as tie
+use Rattle.bool_slow.proofs.bare.shown_by.Statement.{statement}
+use Rattle.bool_slow.proofs.bare.shown_by.Tie as tie
 
 sub-doublings : tie.Need-sub-doublings
 sub-doublings c = search needs
@@ -47,15 +47,15 @@ returns c =
     let start = c .before .before .before .before .before .before in
     λ i. record {
       position = at i;
-      past = beyond (doublingsOf (start .args .self)) (bits (start .args .area .now)) (c .before .before .stopped .result) at i;
-      range = start .args .self .range;
+      past = beyond (doublingsOf (start .args .dec)) (bits (start .args .area .now)) (c .before .before .stopped .result) at i;
+      range = start .args .dec .range;
       value = whole-part (start .pre) i;
-      count = countOf (stateOf (start .args .area .now) (start .args .self));
-      bools = start .args .self .bools;
+      count = countOf (stateOf (start .args .area .now) (start .args .dec));
+      bools = start .args .dec .bools;
     }
 
-pub shown-spec : {M : Type 1} → statement M
-shown-spec =
+pub shown-by-spec : {M : Type 1} → statement M
+shown-by-spec =
     tie.close
     (tie.spec
     sub-doublings
