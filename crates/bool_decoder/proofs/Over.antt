@@ -4,13 +4,13 @@ use mathlib.Core.Path.{_≡_, refl, sym, ap, _∙_}
 use mathlib.Core.List.{List}
 use mathlib.Core.Bool.{Bool, true, false}
 use Prim.Native.Nat.{ℕ, _+_, _-_, _*_, _/_, _%_, _^_, _≤_, _<_}
-use native.Mathlib.Nat.{mul-div-cancel, mul-comm, mul-one, mul-le-mul-right}
+use native.Mathlib.Nat.{mul-comm, mul-one, mul-le-mul-right}
 use native.Mathlib.Omega.{arith}
-use borrow.Author.Tests.{le-leb, lt-leb, ltb-true, ltb-false}
+use borrow.Author.Tests.{ltb-true, ltb-false}
 use lib.ListN.{getD}
-use lib.Dec.{leb, ltb, lit<, lit≤}
-use lib.Pow.{pow-pos, pow-add, shl-exact}
-use Rattle.rfc6386.specs.Decoder.{number, bits, State, start, normal, split, chosen, readBool, pick}
+use lib.Dec.{ltb, lit<, lit≤}
+use lib.Pow.{pow-add, shl-exact}
+use Rattle.rfc6386.specs.Decoder.{number, bits, start, normal, split, readBool, pick}
 use Rattle.rfc6386.specs.Reads.{run, bool}
 use Rattle.bool_decoder.specs.Window.{rest, Holds, Held, vOf, stateOf, limitOf, Over}
 use Rattle.bool_decoder.specs.Model.{out, Good, Ran, Fresh}
@@ -151,8 +151,8 @@ module _ {area : List ℕ} {d : BoolDecoder} (G : Good area d 1) {p : ℕ} {b : 
   holds-v = held-is area (d .doublings) v w (C .holds)
 
   -- the doublings end in this range and this v, which w' holds
-  lands : (c' v' : ℕ) {r' l' w' : ℕ} → normal 7 (bits area) (counted (stateOf area d) r v) ≡ record { v = v'; r = r'; c = c'; n = d .bools + 1 }
-      → Held area c' v' w' → 128 ≤ r' → r' < 256 → c' ≤ d .doublings + 7 → l' ≡ limitOf w'
+  lands : (c' v' : ℕ) {r' l' w' : ℕ}
+      → normal 7 (bits area) (counted (stateOf area d) r v) ≡ record { v = v'; r = r'; c = c'; n = d .bools + 1 } → Held area c' v' w' → 128 ≤ r' → r' < 256 → c' ≤ d .doublings + 7 → l' ≡ limitOf w'
       → Ran (bool p) area d b (record { range = r'; limit = l'; value = w'; doublings = c'; bools = d .bools + 1 }) 1
   unfolding run bool
   lands c' v' {r'} {l'} {w'} e H lo hi few limit = record {

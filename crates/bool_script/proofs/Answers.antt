@@ -1,6 +1,6 @@
 -- A decoder of either engine answers as an engine does, by cases on which one it is; and where it is left.
 use Prim.Native.Nat.{ℕ}
-use mathlib.Core.Path.{_≡_, ap, sym}
+use mathlib.Core.Path.{ap, sym}
 use mathlib.Core.List.{List}
 use Rattle.rfc6386.specs.Decoder.{Out}
 use Rattle.bool_decoder.specs.Engine as By

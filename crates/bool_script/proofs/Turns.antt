@@ -6,10 +6,10 @@ use mathlib.Core.Path.{_≡_, refl, ap, sym, _∙_}
 use mathlib.Core.Bool.{Bool, false}
 use mathlib.Core.List.{List, [], _∷_, _++_}
 use lib.Dec.{eqb}
-use lib.ListN.{length, getD, drop, drop-of-length-le}
+use lib.ListN.{length, getD, drop}
 use lib.Seq.{drop-cons}
 use borrow.Author.Tests.{ne-eqb}
-use Rattle.rfc6386.specs.Decoder.{State, bits, start}
+use Rattle.rfc6386.specs.Decoder.{State, bits}
 use Rattle.bool_decoder.specs.Engine.{Fresh}
 use Rattle.bool_slow.specs.Asks.{answered}
 use Rattle.text.specs.Text.{Text, text, puts}

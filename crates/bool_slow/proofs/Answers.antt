@@ -7,7 +7,7 @@ use mathlib.Core.List.{List}
 use Rattle.rfc6386.specs.Decoder.{State, Out, bits}
 use Rattle.rfc6386.specs.Reads.{Rd, ret, run, make}
 use Rattle.rfc6386.proofs.Trees.{run-bind}
-use Rattle.bool_decoder.specs.Engine.{Engine, out, pastOf, Passed, Allows, Refuses, refusal}
+use Rattle.bool_decoder.specs.Engine.{Engine, out, pastOf, Allows, Refuses}
 use Rattle.bool_slow.specs.Asks.{orRefused, answered, Gives}
 use Rattle.bool_slow.specs.declared.bare.Value.{Value}
 use Rattle.bool_slow.specs.declared.bare.Value.the-variants.{Refused}

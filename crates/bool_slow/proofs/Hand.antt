@@ -10,7 +10,7 @@ use borrow.Author.Tests.{lt-leb, leb-true, leb-false}
 use lib.Dec.{leb, lit<, lit≤}
 use lib.ListN.{getD}
 use lib.Pow.{pow-add}
-use Rattle.rfc6386.specs.Decoder.{number, bits, State, start, double, normal, split, readBool}
+use Rattle.rfc6386.specs.Decoder.{number, bits, start, double, normal, split, readBool}
 use Rattle.rfc6386.specs.Reads.{run, bool}
 use Rattle.bool_decoder.specs.Window.{rest, Holds}
 use Rattle.bool_decoder.specs.Engine.{out}
@@ -230,9 +230,11 @@ module _ {area : List ℕ} {d : SlowDecoder} (G : Good area d 1) (p : ℕ) (byte
       → Picked area d p b e
   picked-zero t clear at =
       let h : d .value < s * 256 = leb-false _ _ (t ∙ clear) in
+      let narrow : d .«bit_count» ≤ 8 = omega (arith, G .over .part) in
+      let below = split-below (d .range) p (G .over .low) byte in
       rw clear (left s v
-      (picks-zero (bits area) p 8 (d .«bit_count») x (d .value) (stateOf area d) (G .over .holds) unread refl (omega (arith, G .over .part)) h)
-      (omega arith) (omega (arith, split-below (d .range) p (G .over .low) byte, G .over .high)) (d .value) at (G .over .holds))
+      (picks-zero (bits area) p 8 (d .«bit_count») x (d .value) (stateOf area d) (G .over .holds) unread refl narrow h) (omega arith)
+      (omega (arith, G .over .high)) (d .value) at (G .over .holds))
 
 module _ {area : List ℕ} {d : SlowDecoder} (G : Good area d 1) {p : ℕ} {b : Bool} {e : SlowDecoder} (P : Picked area d p b e) where
   -- seven doublings are enough for any range

@@ -1,5 +1,5 @@
--- Any two answers that a contract admits are equal: a slow decoder over an area is a function of its state, since the doublings tell how many
--- bytes have come in, and the two bytes in hand are what is left of V when the bytes to come are taken off.
+-- Any two answers that a contract admits are equal: a slow decoder over an area is a function of its state, since the doublings tell how
+-- many bytes have come in, and the two bytes in hand are what is left of V when the bytes to come are taken off.
 use mathlib.Core.Path.{_≡_, sym, ap, _∙_}
 use mathlib.Core.List.{List}
 use Prim.Native.Nat.{ℕ, _+_, _-_, _*_, _/_, _%_, _^_}

@@ -1,9 +1,9 @@
--- What a caller is told by a list of reads is the definition's, of any engine, by induction on the list; so both engines, each from its fresh
--- decoder, tell the same: the window by what its functions promise, read by read.
+-- What a caller is told by a list of reads is the definition's, of any engine, by induction on the list; so both engines, each from its
+-- fresh decoder, tell the same: the window by what its functions promise, read by read.
 use Prim.Native.Nat.{ℕ}
 use mathlib.Core.Path.{_≡_, refl, ap, sym, _∙_}
-use mathlib.Core.List.{List, [], _∷_}
-use Rattle.rfc6386.specs.Decoder.{State, Out, bits, start, past}
+use mathlib.Core.List.{List, _∷_}
+use Rattle.rfc6386.specs.Decoder.{Out, bits, start, past}
 use Rattle.bool_decoder.specs.Engine.{Engine}
 use Rattle.bool_decoder.specs.Engine as By
 use Rattle.bool_decoder.specs.Model.{window}
@@ -13,8 +13,8 @@ use Rattle.bool_decoder.specs.declared.BoolDecoder.{BoolDecoder}
 use Rattle.bool_slow.specs.declared.SlowDecoder.{SlowDecoder}
 use Rattle.bool_slow.specs.declared.bare.Shown.{Shown}
 use Rattle.bool_slow.specs.declared.bare.Value.{Value}
-use Rattle.bool_slow.specs.declared.bare.Value.the-variants.{Bit, Plain, Signed, Refused}
-use Rattle.bool_slow.specs.Asks.{Ask, answered, Gives}
+use Rattle.bool_slow.specs.declared.bare.Value.the-variants.{Bit, Plain, Signed}
+use Rattle.bool_slow.specs.Asks.{Ask, Gives}
 use Rattle.bool_slow.specs.Slow.{slow, Fresh}
 use Rattle.bool_slow.specs.Told.{shownOf, Told, tells, Tells, Answers, Shows, WindowTells}
 use Rattle.bool_slow.specs.Told as T

@@ -74,8 +74,8 @@ pub fn shown_by(area: &[u8], dec: SlowDecoder) -> Shown
     }
 }
 
-// The number of the refusal, 0 for none: too large an area, too wide a literal, nothing to read from, too many bools. A signed literal wants
-// one bool beside its width.
+// The number of the refusal, 0 for none: too large an area, too wide a literal, nothing to read from, too many bools. A signed literal
+// wants one bool beside its width.
 fn refusal(size: usize, width: u32, extra: u32, bools: u32) -> u32
     requires { ⌜ (extra ≤ 1) × (bools ≤ 16777216) ⌝ }
     ensures { λ r. ⌜ r ≡ refusalOf size width (width + extra) bools ⌝ }

@@ -1,7 +1,7 @@
 -- A bar, and the numbers that the decoder shows.
 use Prim.Native.Nat.{ℕ}
 use mathlib.Core.Path.{_≡_}
-use mathlib.Core.List.{List, [], _∷_, _++_}
+use mathlib.Core.List.{[], _∷_, _++_}
 use Rattle.rfc6386.specs.Decoder.{State}
 use Rattle.bool_slow.specs.Told.{shownOf}
 use Rattle.bool_slow.specs.declared.bare.Shown.{Shown}

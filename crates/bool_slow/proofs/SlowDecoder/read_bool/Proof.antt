@@ -1,5 +1,5 @@
--- The choice is that of `picked-one` and `picked-zero`, whichever arm was taken; a turn of the loop is `stays` or `fetches`; where the range is
--- back, `ended`.
+-- The choice is that of `picked-one` or `picked-zero`, by the arm that was taken; a turn of the loop is `stays` or `fetches`; where the range
+-- is back, `ended`.
 use mathlib.Core.Logic.{⊎-elim}
 use mathlib.Core.Path.{refl}
 use Prim.Native.Nat.{_-_}
@@ -25,17 +25,20 @@ sub-split c = search needs
 mul-split : tie.Need-mul-split Inv-loop μ-loop
 mul-split c =
     let start = c .before .before .before in
-    record { fits = omega (arith, product (start .args .self .range) (start .args .prob) (start .pre .over .high) (start .fits .prob .fits)) }
+    let most = product (start .args .self .range) (start .args .prob) (start .pre .over .high) (start .fits .prob .fits) in
+    record { fits = omega arith }
 
 add-split : tie.Need-add-split Inv-loop μ-loop
 add-split c =
     let start = c .before .before .before in
-    record { fits = omega (arith, product (start .args .self .range) (start .args .prob) (start .pre .over .high) (start .fits .prob .fits)) }
+    let most = product (start .args .self .range) (start .args .prob) (start .pre .over .high) (start .fits .prob .fits) in
+    record { fits = omega arith }
 
 mul-bigsplit : tie.Need-mul-bigsplit Inv-loop μ-loop
 mul-bigsplit c =
     let start = c .before .before .before in
-    record { fits = omega (arith, product (start .args .self .range) (start .args .prob) (start .pre .over .high) (start .fits .prob .fits)) }
+    let most = product (start .args .self .range) (start .args .prob) (start .pre .over .high) (start .fits .prob .fits) in
+    record { fits = omega arith }
 
 sub-d : tie.Need-sub-d Inv-loop μ-loop
 sub-d c =

@@ -1,5 +1,5 @@
--- The position is the lesser of the doublings and the area's bits, and what they have above it is what they have above those; the byte before
--- the point is V's whole part.
+-- The position is the lesser of the doublings and the area's bits, and what they have above it is what they have above those; the byte
+-- before the point is V's whole part.
 use mathlib.Core.Path.{_≡_}
 use Prim.Native.Nat.{ℕ, _-_, min}
 use native.Mathlib.Omega.{arith}
