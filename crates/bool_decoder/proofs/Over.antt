@@ -152,7 +152,8 @@ module _ {area : List ℕ} {d : BoolDecoder} (G : Good area d 1) {p : ℕ} {b : 
 
   -- the doublings end in this range and this v, which w' holds
   lands : (c' v' : ℕ) {r' l' w' : ℕ}
-      → normal 7 (bits area) (counted (stateOf area d) r v) ≡ record { v = v'; r = r'; c = c'; n = d .bools + 1 } → Held area c' v' w' → 128 ≤ r' → r' < 256 → c' ≤ d .doublings + 7 → l' ≡ limitOf w'
+      → normal 7 (bits area) (counted (stateOf area d) r v) ≡ record { v = v'; r = r'; c = c'; n = d .bools + 1 }
+      → Held area c' v' w' → 128 ≤ r' → r' < 256 → c' ≤ d .doublings + 7 → l' ≡ limitOf w'
       → Ran (bool p) area d b (record { range = r'; limit = l'; value = w'; doublings = c'; bools = d .bools + 1 }) 1
   unfolding run bool
   lands c' v' {r'} {l'} {w'} e H lo hi few limit = record {

@@ -1,5 +1,5 @@
--- The choice is that of `picked-one` or `picked-zero`, by the arm that was taken; a turn of the loop is `stays` or `fetches`; where the range
--- is back, `ended`.
+-- The choice is that of `picked-one` or `picked-zero`, by the arm that was taken; a turn of the loop is `stays` or `fetches`; where the
+-- range is back, `ended`.
 use mathlib.Core.Logic.{⊎-elim}
 use mathlib.Core.Path.{refl}
 use Prim.Native.Nat.{_-_}
