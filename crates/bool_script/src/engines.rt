@@ -161,13 +161,11 @@ fn read_slow(area: &[u8], dec: SlowDecoder, kind: u8, number: u8) -> bare::Answe
     requires { ⌜ S.Over (now area) dec ⌝ }
     ensures { λ r. ⌜ Slow.Gives (now (area .entry)) (askOf kind number) dec (r .value) (r .past) (r .dec) ⌝ }
 {
-    if kind == 0 {
-        return bare::read_bool(area, dec, number);
+    match kind {
+        0 => bare::read_bool(area, dec, number),
+        1 => bare::read_literal(area, dec, number as u32),
+        _ => bare::read_signed(area, dec, number as u32),
     }
-    if kind == 1 {
-        return bare::read_literal(area, dec, number as u32);
-    }
-    bare::read_signed(area, dec, number as u32)
 }
 
 // One read of a script. A kind that is not known counts as a signed literal.
