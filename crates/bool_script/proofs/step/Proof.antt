@@ -32,7 +32,8 @@ shown-requires c κs =
     let at-read = c .before .before .before .before in
     let a = at-read .before .before .before .args in
     let r = at-read .read .result in
-    given (a .area .now) (askOf (a .kind) (a .number)) (a .dec) (r .value) (r .past) (r .dec) (at-read .read .ensures) .over
+    let after = given (a .area .now) (askOf (a .kind) (a .number)) (a .dec) (r .value) (r .past) (r .dec) (at-read .read .ensures) .over in
+    search needs
 
 slice-aggregate-fill : tie.Need-slice-aggregate-fill
 slice-aggregate-fill c = search needs
