@@ -41,7 +41,7 @@ value-is area c v w H = made-is 56 (2 ^ bits area) (c % 8) (rest area (c / 8 + 8
 pub held-is : (area : List ℕ) (c v w : ℕ) → Held area c v w → Held area c (vOf area c w) w
 held-is area c v w H = rw (value-is area c v w H) H
 
-top : (l : ℕ) → 256 * 2 ^ l ≡ 2 ^ (l + 8)
+pub top : (l : ℕ) → 256 * 2 ^ l ≡ 2 ^ (l + 8)
 top l = mul-comm 256 (2 ^ l) ∙ sym (pow-add 2 l 8)
 
 -- the fresh decoder: its window is the first eight bytes

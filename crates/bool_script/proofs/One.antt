@@ -1,12 +1,9 @@
 -- Any two answers that the contracts of `fresh` and `read` admit are equal, by cases on the engine, and for each by its own law.
-use mathlib.Core.Path.{_≡_, ap, sym, _∙_}
+use mathlib.Core.Path.{_≡_, ap}
 use mathlib.Core.List.{List}
 use Prim.Native.Nat.{ℕ}
-use Rattle.rfc6386.specs.Decoder.{Out}
-use Rattle.bool_decoder.specs.Engine.{pastOf}
-use Rattle.bool_decoder.specs.Model.{window}
 use Rattle.bool_decoder.proofs.Same as W
-use Rattle.bool_slow.specs.Slow.{slow}
+use Rattle.bool_slow.proofs.Answers.{one-given}
 use Rattle.bool_slow.proofs.Same as S
 use Rattle.bool_slow.specs.Asks.{Ask}
 use Rattle.bool_slow.specs.declared.bare.Value.{Value}
@@ -30,19 +27,13 @@ module _ (area : List ℕ) (a : Ask) where
   both : (d e f : Decoder) {v w : Value} {q t : ℕ} → Gives area a d v q e → Gives area a d w t f
       → _≡_ {A = Answer} (record { value = v; past = q; dec = e }) (record { value = w; past = t; dec = f })
   both (Window d) (Window e) (Window f) p s =
-      let o = sym (p .is) ∙ s .is in
-      let left = W.same (p .over) (s .over) (ap (λ (x : Out Value). x .then) o) in
-      let beyond = p .past ∙ ap (pastOf window area) left ∙ sym (s .past) in
-      λ i. record { value = o i .got; past = beyond i; dec = Window (left i) }
+      one-given {S = Answer} (λ v q g. record { value = v; past = q; dec = Window g }) (λ g h. W.same) p s
   both (Window d) (Window e) (Slow f) p s = absurd s
   both (Window d) (Slow e) f p s = absurd p
   both (Slow d) (Window e) f p s = absurd p
   both (Slow d) (Slow e) (Window f) p s = absurd s
   both (Slow d) (Slow e) (Slow f) p s =
-      let o = sym (p .is) ∙ s .is in
-      let left = S.same (p .over) (s .over) (ap (λ (x : Out Value). x .then) o) in
-      let beyond = p .past ∙ ap (pastOf slow area) left ∙ sym (s .past) in
-      λ i. record { value = o i .got; past = beyond i; dec = Slow (left i) }
+      one-given {S = Answer} (λ v q g. record { value = v; past = q; dec = Slow g }) (λ g h. S.same) p s
 
   pub one-answer : (d : Decoder) (r q : Answer) → Gives area a d (r .value) (r .past) (r .dec)
       → Gives area a d (q .value) (q .past) (q .dec) → r ≡ q

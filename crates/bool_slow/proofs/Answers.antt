@@ -1,5 +1,5 @@
 -- What the bare decoder answers, of any engine: a read that is allowed is the run of its tree, by one step of `make`; one that is refused
--- leaves the state.
+-- leaves the state. No answer leaves a choice.
 use Prim.Native.Nat.{ℕ, zero, suc, _<_}
 use native.Mathlib.Omega.{arith}
 use mathlib.Core.Path.{_≡_, refl, ap, sym, _∙_}
@@ -8,7 +8,7 @@ use Rattle.rfc6386.specs.Decoder.{State, Out, bits}
 use Rattle.rfc6386.specs.Reads.{Rd, ret, run, make}
 use Rattle.rfc6386.proofs.Trees.{run-bind}
 use Rattle.bool_decoder.specs.Engine.{Engine, out, pastOf, Allows, Refuses}
-use Rattle.bool_slow.specs.Asks.{orRefused, answered, Gives}
+use Rattle.bool_slow.specs.Asks.{Ask, orRefused, answered, Gives}
 use Rattle.bool_slow.specs.declared.bare.Value.{Value}
 use Rattle.bool_slow.specs.declared.bare.Value.the-variants.{Refused}
 
@@ -42,3 +42,14 @@ refused {E} {area} {d} {n} m o g = record {
   past = refl;
   over = o;
 }
+
+-- any two answers of an engine to one read are equal, where its decoders are functions of the states that they stand for
+pub one-given : {E : Engine} {S : Type 0} (all : Value → ℕ → E .Dec → S) {area : List ℕ}
+    → ((d e : E .Dec) → E .Over area d → E .Over area e → E .stateOf area d ≡ E .stateOf area e → d ≡ e)
+    → {a : Ask} {d : E .Dec} {v w : Value} {q t : ℕ} {e f : E .Dec} → Gives E area a d v q e → Gives E area a d w t f
+    → all v q e ≡ all w t f
+one-given {E} all {area} same {e = e} {f = f} p s =
+    let o = sym (p .is) ∙ s .is in
+    let left = same e f (p .over) (s .over) (ap (λ (x : Out Value). x .then) o) in
+    let beyond = p .past ∙ ap (pastOf E area) left ∙ sym (s .past) in
+    λ i. all (o i .got) (beyond i) (left i)

@@ -9,7 +9,6 @@ use native.Mathlib.Omega.{arith}
 use borrow.Author.Tests.{lt-leb, leb-true, leb-false}
 use lib.Dec.{leb, lit<, lit≤}
 use lib.ListN.{getD}
-use lib.Pow.{pow-add}
 use Rattle.rfc6386.specs.Decoder.{number, bits, start, double, normal, split, readBool}
 use Rattle.rfc6386.specs.Reads.{run, bool}
 use Rattle.bool_decoder.specs.Window.{rest, Holds}
@@ -17,6 +16,7 @@ use Rattle.bool_decoder.specs.Engine.{out}
 use Rattle.bool_decoder.proofs.Laws.{made-is, whole-is, less, shift, take-byte}
 use Rattle.bool_decoder.proofs.Stream.{rest-zero, rest-step, rest-lt, more}
 use Rattle.bool_decoder.proofs.Normal.{normal-high}
+use Rattle.bool_decoder.proofs.Over.{top}
 use Rattle.bool_decoder.proofs.Picks.{split-below, picks-one, picks-zero}
 use Rattle.bool_slow.specs.declared.SlowDecoder.{SlowDecoder}
 use Rattle.bool_slow.specs.Hand.{doublingsOf, vOf, stateOf, Held, Over}
@@ -78,9 +78,6 @@ pub record Going (area : List ℕ) (d here : SlowDecoder) : Type 0 where
   pub room : doublingsOf d ≤ 117440505
   pub bools : here .bools ≡ d .bools
   pub state : normal fuel (bits area) (stateOf area here) ≡ normal 7 (bits area) (stateOf area d)
-
-top : (l : ℕ) → 256 * 2 ^ l ≡ 2 ^ (l + 8)
-top l = mul-comm 256 (2 ^ l) ∙ sym (pow-add 2 l 8)
 
 module _ {area : List ℕ} {d here : SlowDecoder} (G : Going area d here) (short : here .range < 128) where
   abbrev b : ℕ

@@ -5,16 +5,15 @@ use mathlib.Core.List.{List}
 use Prim.Native.Nat.{ℕ, _+_, _-_, _*_, _/_, _%_, _^_}
 use native.Mathlib.Omega.{arith}
 use lib.Pow.{pow-pos}
-use Rattle.rfc6386.specs.Decoder.{State, Out, bits}
+use Rattle.rfc6386.specs.Decoder.{State, bits}
 use Rattle.bool_decoder.specs.Window.{rest}
-use Rattle.bool_decoder.specs.Engine.{pastOf}
 use Rattle.bool_decoder.proofs.Laws.{window-is}
 use Rattle.bool_slow.specs.declared.SlowDecoder.{SlowDecoder}
-use Rattle.bool_slow.specs.declared.bare.Value.{Value}
 use Rattle.bool_slow.specs.declared.bare.Answer.{Answer}
 use Rattle.bool_slow.specs.Asks.{Ask}
 use Rattle.bool_slow.specs.Hand.{doublingsOf, vOf, stateOf, Over}
-use Rattle.bool_slow.specs.Slow.{slow, Fresh, Gives}
+use Rattle.bool_slow.proofs.Answers.{one-given}
+use Rattle.bool_slow.specs.Slow.{Fresh, Gives}
 
 -- the two bytes that stand for a v, with so many bytes in and so many bits shifted out
 abbrev bytesOf : List ℕ → ℕ → ℕ → ℕ → ℕ
@@ -52,8 +51,4 @@ same-fresh p q = same (p .over) (q .over) (p .state ∙ sym (q .state))
 -- read_bool, read_literal and read_signed
 pub one-answer : {area : List ℕ} {a : Ask} {d : SlowDecoder} {r q : Answer}
     → Gives area a d (r .value) (r .past) (r .dec) → Gives area a d (q .value) (q .past) (q .dec) → r ≡ q
-one-answer {area} p s =
-    let e = sym (p .is) ∙ s .is in
-    let left = same (p .over) (s .over) (ap (λ (o : Out Value). o .then) e) in
-    let beyond = p .past ∙ ap (pastOf slow area) left ∙ sym (s .past) in
-    λ i. record { value = e i .got; past = beyond i; dec = left i }
+one-answer p s = one-given {S = Answer} (λ v q e. record { value = v; past = q; dec = e }) (λ d e. same) p s

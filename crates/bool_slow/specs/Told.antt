@@ -3,8 +3,8 @@ use Prim.Native.Nat.{ℕ}
 use mathlib.Core.Path.{_≡_}
 use mathlib.Core.List.{List, [], _∷_}
 use Rattle.rfc6386.specs.Decoder.{State, bits, whole, countOf, position, past}
-use Rattle.bool_decoder.specs.Engine.{Engine}
-use Rattle.bool_decoder.specs.Model.{Seen, pastOf}
+use Rattle.bool_decoder.specs.Engine.{Engine, boolsOf}
+use Rattle.bool_decoder.specs.Model.{window, Seen, pastOf}
 use Rattle.bool_decoder.specs.Window.{stateOf}
 use Rattle.bool_decoder.specs.Answer.{BoolMeets, UintMeets, SintMeets}
 use Rattle.bool_decoder.specs.declared.BoolDecoder.{BoolDecoder}
@@ -57,7 +57,7 @@ pub record Shows (area : List ℕ) (d : BoolDecoder) (s : Shown) : Type 0 where
   pub place : s .position ≡ position (bits area) (stateOf area d)
   pub past-end : s .past ≡ pastOf area d
   pub seen : Seen area d (record { range = s .range; value = s .value; count = s .count })
-  pub bools : s .bools ≡ d .bools
+  pub bools : s .bools ≡ boolsOf window area d
 
 -- the window's, from its decoder d on
 pub data WindowTells (area : List ℕ) : BoolDecoder → List Ask → List Told → Type 0 where

@@ -1,8 +1,9 @@
 // The boolean decoder of RFC 6386 section 7, to be read beside it: the names and the order of section 7.3, two bytes in hand, a byte
 // fetched every eight doublings, a doubling at a time. It is proved to answer every read as `bool_decoder` does, whose window of 64 bits
 // is quicker and harder to follow.
-// It differs from that section in four things: past the area's end it fetches zeros; a doubling drops what reaches 256, which section 7.2
-// takes to be zero and which in an area that begins with FF is not; bools are counted; and the decoder goes by value, the area beside it.
+// It differs from that section in five things: past the area's end it fetches zeros; a doubling drops what reaches 256, which section 7.2
+// takes to be zero and which in an area that begins with FF is not; a signed literal is another; bools are counted; and the decoder goes by
+// value, the area beside it.
 pub mod bare;
 
 use bitstream_utils::byte_at;
@@ -121,8 +122,7 @@ impl SlowDecoder {
         Literal { value, dec }
     }
 
-    // A magnitude, then a sign, as the fields of the header are coded (section 9.6). The signed literal of section 7.3 begins with its
-    // sign, and no field of the header is one.
+    // A magnitude, then a sign, as the header's fields are coded (section 9.6). Section 7.3's begins with its sign; no field is one.
     fn read_signed(self, area: &[u8], num_bits: u32) -> SignedLiteral
         requires { ⌜ («num_bits» ≤ 31) × Good (now area) self («num_bits» + 1) ⌝ }
         ensures { λ r. ⌜ Sgn (now (area .entry)) «num_bits» self (r .value) (r .dec) ⌝ }
