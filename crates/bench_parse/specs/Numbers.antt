@@ -9,19 +9,16 @@ use Rattle.vp8_records.specs.declared.ModeProbs.{ModeProbs}
 use Rattle.vp8_records.specs.declared.Header.{Header}
 use Rattle.vp8_records.specs.declared.Parser.{Parser}
 use Rattle.vp8_records.specs.declared.Parsed.{Parsed}
+use Rattle.vp8_records.specs.Layout.{coeffAt}
 use Rattle.vp8_records.specs.Outcome.{numberOf}
 use Rattle.vp8_flat.specs.Bytes.{flatModes, segmentationBytes, adjustmentBytes}
 use Rattle.vp8_flat.specs.Numbers.{frontNumbers, flagsOf, tailOf}
 use Rattle.bench_sum.specs.Sum.{folds}
 
--- past the end of a list stands an empty record, whose numbers are 0
 abbrev pub coefficientAt : CoeffProbs → ℕ → ℕ
-coefficientAt c n =
-    let bands = getD (c .v) (n % 4) (record { v = [] }) in
-    let contexts = getD (bands .v) (n / 4 % 8) (record { v = [] }) in
-    let tokens = getD (contexts .v) (n / 32 % 3) (record { v = [] }) in
-    getD (tokens .v) (n / 96 % 11) 0
+coefficientAt c n = coeffAt c (n % 4) (n / 4 % 8) (n / 32 % 3) (n / 96 % 11)
 
+-- past the end of a list stands an empty record, whose numbers are 0
 abbrev pub motionAt : MvProbs → ℕ → ℕ
 motionAt m n = getD (getD (m .v) (n % 2) (record { v = [] }) .v) (n / 2 % 19) 0
 

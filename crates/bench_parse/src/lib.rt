@@ -13,6 +13,7 @@ use vp8_records::MvProbs;
 use vp8_records::Parsed;
 use vp8_records::Parser;
 use vp8_records::Segmentation;
+use vp8_records::coeff_index;
 ghost use mathlib.Core.Path.{_≡_};
 ghost use mathlib.Core.List.{map};
 ghost use lib.ListN.{take};
@@ -77,14 +78,11 @@ fn adjustments(sum: u64, a: MbLfAdjustments) -> u64
 fn coefficient(c: CoeffProbs, place: u32) -> u8
     ensures { λ r. ⌜ r ≡ coefficientAt c place ⌝ }
 {
-    let i = (place % 4) as usize;
-    let j = (place / 4 % 8) as usize;
-    let k = (place / 32 % 3) as usize;
-    let l = (place / 96 % 11) as usize;
-    let bands = c.v[i];
-    let contexts = bands.v[j];
-    let tokens = contexts.v[k];
-    tokens.v[l]
+    let i = (place % 4) as u8;
+    let j = (place / 4 % 8) as u8;
+    let k = (place / 32 % 3) as u8;
+    let l = (place / 96 % 11) as u8;
+    c.v[coeff_index(i, j, k, l)]
 }
 
 fn motion(m: MvProbs, place: u32) -> u8

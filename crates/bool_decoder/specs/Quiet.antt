@@ -11,25 +11,25 @@ use Rattle.bool_decoder.specs.declared.BoolDecoder.{BoolDecoder}
 abbrev pub narrowed : BoolDecoder → ℕ → ℕ → BoolDecoder
 narrowed d low n = record { range = low + 1; limit = d .limit; value = d .value; doublings = d .doublings; bools = d .bools + n }
 
--- of the entries that stand in the table t from `at` on, i to n, without n, may be read from d
-pub record Ahead (area t : List ℕ) (at i n : ℕ) (d : BoolDecoder) : Type 0 where
+-- the entries i to n, without n, of the table t may be read from d
+pub record Ahead (area t : List ℕ) (i n : ℕ) (d : BoolDecoder) : Type 0 where
   pub order : i ≤ n
-  pub inside : at + n ≤ length t
+  pub inside : n ≤ length t
   pub good : Good area d (n - i)
 
 -- the bools of the entries i to j, without j, are 0, and from d they leave the last decoder
-pub data Quiet (area t : List ℕ) (at i : ℕ) (d : BoolDecoder) : ℕ → BoolDecoder → Type 0 where
-  here : Quiet area t at i d i d
-  past : {j : ℕ} {e e' : BoolDecoder} → Quiet area t at i d j e → Ran (bool (getD t (at + j) 0)) area e false e' 1
-      → Quiet area t at i d (j + 1) e'
+pub data Quiet (area t : List ℕ) (i : ℕ) (d : BoolDecoder) : ℕ → BoolDecoder → Type 0 where
+  here : Quiet area t i d i d
+  past : {j : ℕ} {e e' : BoolDecoder} → Quiet area t i d j e → Ran (bool (getD t j 0)) area e false e' 1
+      → Quiet area t i d (j + 1) e'
 
 -- so many of them are passed over, and not all need be
-pub record Passes (area t : List ℕ) (at i n : ℕ) (d : BoolDecoder) (j : ℕ) (e : BoolDecoder) : Type 0 where
+pub record Passes (area t : List ℕ) (i n : ℕ) (d : BoolDecoder) (j : ℕ) (e : BoolDecoder) : Type 0 where
   pub within : j ≤ n
-  pub quiet : Quiet area t at i d j e
+  pub quiet : Quiet area t i d j e
 
 -- the first whose bool is set, or n where none is
-pub data Finds (area t : List ℕ) (at i n : ℕ) (d : BoolDecoder) : ℕ → BoolDecoder → Type 0 where
-  hit : {j : ℕ} {e e' : BoolDecoder} → j < n → Quiet area t at i d j e → Ran (bool (getD t (at + j) 0)) area e true e' 1
-      → Finds area t at i n d j e'
-  miss : {e : BoolDecoder} → Quiet area t at i d n e → Finds area t at i n d n e
+pub data Finds (area t : List ℕ) (i n : ℕ) (d : BoolDecoder) : ℕ → BoolDecoder → Type 0 where
+  hit : {j : ℕ} {e e' : BoolDecoder} → j < n → Quiet area t i d j e → Ran (bool (getD t j 0)) area e true e' 1
+      → Finds area t i n d j e'
+  miss : {e : BoolDecoder} → Quiet area t i d n e → Finds area t i n d n e

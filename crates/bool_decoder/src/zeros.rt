@@ -5,7 +5,7 @@ ghost use mathlib.Core.Path.{_≡_};
 ghost use Prim.Native.Nat.{_+_, _-_, _*_, _/_, _<_, _≤_};
 ghost use Rattle.bool_decoder.specs.Quiet.{narrowed, Ahead, Passes, Finds};
 
-// An entry of the table, counted from the first that is asked for, and the decoder there.
+// An entry of the table, and the decoder there.
 pub struct Place {
     pub at: usize,
     pub dec: BoolDecoder,
@@ -41,19 +41,19 @@ fn less_three(end: usize) -> usize
 }
 
 // Zeros that the limit tells, four at a time: the range falls, so the last of them tells for all.
-fn fours(area: &[u8], table: &[u8], dec: BoolDecoder, at: usize, from: usize, end: usize) -> Place
-    requires { ⌜ Ahead (now area) (now table) at from end dec ⌝ }
-    ensures { λ r. ⌜ Passes (now (area .entry)) (now (table .entry)) at from end dec (r .at) (r .dec) ⌝ }
+fn fours(area: &[u8], table: &[u8], dec: BoolDecoder, from: usize, end: usize) -> Place
+    requires { ⌜ Ahead (now area) (now table) from end dec ⌝ }
+    ensures { λ r. ⌜ Passes (now (area .entry)) (now (table .entry)) from end dec (r .at) (r .dec) ⌝ }
 {
     let stop = less_three(end);
     let bound = dec.limit - 1;
     let mut low = dec.range - 1;
     let mut i = from;
     while i < stop {
-        let a = step(low, table[at + i]);
-        let b = step(a, table[at + i + 1]);
-        let c = step(b, table[at + i + 2]);
-        let d = step(c, table[at + i + 3]);
+        let a = step(low, table[i]);
+        let b = step(a, table[i + 1]);
+        let c = step(b, table[i + 2]);
+        let d = step(c, table[i + 3]);
         if d < bound {
             break;
         }
@@ -65,15 +65,15 @@ fn fours(area: &[u8], table: &[u8], dec: BoolDecoder, at: usize, from: usize, en
 }
 
 // The same one at a time.
-fn singles(area: &[u8], table: &[u8], dec: BoolDecoder, at: usize, from: usize, end: usize) -> Place
-    requires { ⌜ Ahead (now area) (now table) at from end dec ⌝ }
-    ensures { λ r. ⌜ Passes (now (area .entry)) (now (table .entry)) at from end dec (r .at) (r .dec) ⌝ }
+fn singles(area: &[u8], table: &[u8], dec: BoolDecoder, from: usize, end: usize) -> Place
+    requires { ⌜ Ahead (now area) (now table) from end dec ⌝ }
+    ensures { λ r. ⌜ Passes (now (area .entry)) (now (table .entry)) from end dec (r .at) (r .dec) ⌝ }
 {
     let bound = dec.limit - 1;
     let mut low = dec.range - 1;
     let mut i = from;
     while i < end {
-        let next = step(low, table[at + i]);
+        let next = step(low, table[i]);
         if next < bound {
             break;
         }
@@ -85,36 +85,28 @@ fn singles(area: &[u8], table: &[u8], dec: BoolDecoder, at: usize, from: usize, 
 }
 
 // All of them, up to the first that needs the window.
-fn pass(area: &[u8], table: &[u8], dec: BoolDecoder, at: usize, from: usize, end: usize) -> Place
-    requires { ⌜ Ahead (now area) (now table) at from end dec ⌝ }
-    ensures { λ r. ⌜ Passes (now (area .entry)) (now (table .entry)) at from end dec (r .at) (r .dec) ⌝ }
+fn pass(area: &[u8], table: &[u8], dec: BoolDecoder, from: usize, end: usize) -> Place
+    requires { ⌜ Ahead (now area) (now table) from end dec ⌝ }
+    ensures { λ r. ⌜ Passes (now (area .entry)) (now (table .entry)) from end dec (r .at) (r .dec) ⌝ }
 {
-    let four = fours(area, table, dec, at, from, end);
-    singles(area, table, four.dec, at, four.at, end)
+    let four = fours(area, table, dec, from, end);
+    singles(area, table, four.dec, four.at, end)
 }
 
-// Of the entries that stand in the table from `at` on: the first from `from` on whose bool is set, and the decoder after that bool; or
-// `end`, and the decoder after all.
-pub fn seek(
-    area: &[u8],
-    table: &[u8],
-    dec: BoolDecoder,
-    at: usize,
-    from: usize,
-    end: usize,
-) -> Place
-    requires { ⌜ Ahead (now area) (now table) at from end dec ⌝ }
-    ensures { λ r. ⌜ Finds (now (area .entry)) (now (table .entry)) at from end dec (r .at) (r .dec) ⌝ }
+// The first entry of the table from `from` on whose bool is set, and the decoder after that bool; or `end`, and the decoder after all.
+pub fn seek(area: &[u8], table: &[u8], dec: BoolDecoder, from: usize, end: usize) -> Place
+    requires { ⌜ Ahead (now area) (now table) from end dec ⌝ }
+    ensures { λ r. ⌜ Finds (now (area .entry)) (now (table .entry)) from end dec (r .at) (r .dec) ⌝ }
 {
     let mut next = dec;
     let mut i = from;
     while i < end {
-        let read = next.read_bit(area, table[at + i]);
+        let read = next.read_bit(area, table[i]);
         if read.bit {
             let found = read.dec;
             return Place { at: i, dec: found };
         }
-        let zeros = pass(area, table, read.dec, at, i + 1, end);
+        let zeros = pass(area, table, read.dec, i + 1, end);
         next = zeros.dec;
         i = zeros.at;
     }

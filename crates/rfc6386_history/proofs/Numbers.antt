@@ -1,13 +1,13 @@
 -- The kept numbers are all that a parser keeps: groups of the same lengths that make the same run are the same, and each field is read
 -- back from its group. A record that code can hold has the right lengths by its type.
-use Prim.Native.Nat.{ℕ, zero, suc, _+_}
+use Prim.Native.Nat.{ℕ, zero, suc, _+_, _<_}
 use native.Mathlib.Omega.{arith}
 use mathlib.Core.Path.{_≡_, refl, sym, ap, ap₂, _∙_}
 use mathlib.Core.Bool.{Bool, true, false}
-use mathlib.Core.List.{List, [], _∷_, _++_, map}
+use mathlib.Core.List.{List, [], _∷_, _++_, map, append-assoc}
 use lib.IntN.{ℤ, pos, negsuc}
-use lib.ListN.{length, take, drop, getD, length-append, length-map}
-use lib.Seq.{take-at, drop-at, ext-getD}
+use lib.ListN.{length, take, drop, getD, length-append, length-map, List·getD-append, List·getD-map}
+use lib.Seq.{take-at, drop-at, ext-getD, getD-append-add}
 use Rattle.vp8_records.specs.declared.Parser.{Parser}
 use Rattle.vp8_records.specs.Layout.{joined, flatCoeffs, flatMv}
 use Rattle.vp8_records.specs.Start.{fresh}
@@ -18,7 +18,7 @@ use Rattle.rfc6386.specs.Call.{Asked, called, after}
 use Rattle.rfc6386_history.specs.Kept.{flagged, groups, all, numbers, kept}
 use Rattle.vp8_records.specs.Shape.{Sized}
 use Rattle.rfc6386_history.specs.History.{anyCutter, since, writes, last}
-use Rattle.vp8_records.proofs.Parts.{Laid, coeffs, mv}
+use Rattle.vp8_records.proofs.Parts.{Laid, mv}
 use Rattle.rfc6386_history.proofs.Writes.{sized-fresh}
 use Rattle.rfc6386_history.proofs.Step.{sized-call}
 use Rattle.rfc6386_history.proofs.History.{last-writer, last-writer-from}
@@ -48,7 +48,7 @@ lengths-are : (p : Parser) → Sized p → map length (groups p) ≡ 4 ∷ 4 ∷
 lengths-are p s =
     λ i.
     4 ∷ s .quantizers i ∷ s .levels i ∷ bytes (p .segmentation .«segment_prob») (s .probs) i ∷ 2 ∷ s .frames i ∷ s .modes i
-    ∷ bytes (flatCoeffs (p .«coeff_prob»)) (coeffs .size (p .«coeff_prob») (s .coeffs)) i
+    ∷ bytes (flatCoeffs (p .«coeff_prob»)) (s .coeffs) i
     ∷ bytes (flatMv (p .«mv_prob»)) (mv .size (p .«mv_prob») (s .motion)) i
     ∷ bytes (p .«mode_probs» .«intra_16x16_prob») (s .luma) i
     ∷ bytes (p .«mode_probs» .«intra_chroma_prob») (s .chroma) i
@@ -61,6 +61,25 @@ lengths-are p s =
 pub how-many : (p : Parser) → Sized p → length (numbers p) ≡ 1126
 unfolding numbers sum
 how-many p s = length-all (groups p) ∙ ap sum (lengths-are p s)
+
+all-cut : {A : Type 0} (n : ℕ) (xs : List (List A)) → all xs ≡ all (take n xs) ++ all (drop n xs)
+unfolding joined
+all-cut zero xs = refl
+all-cut (suc n) [] = refl
+all-cut {A} (suc n) (x ∷ xs) =
+    ap (λ (l : List A). x ++ l) (all-cut n xs) ∙ sym (append-assoc x (all (take n xs)) (all (drop n xs)))
+
+-- the coefficient probabilities follow the first seven groups, which are 25 numbers
+pub kept-coeff : (p : Parser) → Sized p → (n : ℕ) → n < 1056 → kept p (25 + n) ≡ pos (getD (flatCoeffs (p .«coeff_prob»)) n 0)
+unfolding kept numbers joined sum
+kept-coeff p s n h =
+    let cs : List ℕ = flatCoeffs (p .«coeff_prob») in
+    let first : List ℤ = all (take 7 (groups p)) in
+    let rest : List ℤ = all (drop 7 (groups p)) in
+    let long : length first ≡ 25 = length-all (take 7 (groups p)) ∙ ap (λ (ns : List ℕ). sum (take 7 ns)) (lengths-are p s) in
+    ap (λ (l : List ℤ). getD l (25 + n) (pos 0)) (all-cut 7 (groups p))
+    ∙ ap (λ (k : ℕ). getD (first ++ rest) (k + n) (pos 0)) (sym long) ∙ getD-append-add first rest n (pos 0)
+    ∙ List·getD-append (map pos cs) _ (pos 0) n (omega (arith, length-map cs pos, s .coeffs, h)) ∙ List·getD-map pos cs n 0
 
 -- a flag and a byte are back from their numbers
 abbrev isOne : ℤ → Bool
@@ -100,8 +119,7 @@ module _ (p q : Parser) (s : Sized p) (t : Sized q) where
           «ref_frame_delta» = group 5 i;
           «mb_mode_delta» = group 6 i;
         };
-        «coeff_prob» = laid coeffs (p .«coeff_prob») (q .«coeff_prob») (s .coeffs) (t .coeffs)
-            (bytes 7 (λ x. flatCoeffs (x .«coeff_prob»)) (λ x. refl)) i;
+        «coeff_prob» = record { v = bytes 7 (λ x. flatCoeffs (x .«coeff_prob»)) (λ x. refl) i };
         «mv_prob» = laid mv (p .«mv_prob») (q .«mv_prob») (s .motion) (t .motion) (bytes 8 (λ x. flatMv (x .«mv_prob»)) (λ x. refl)) i;
         «mode_probs» = record {
           «intra_16x16_prob» = bytes 9 (λ x. x .«mode_probs» .«intra_16x16_prob») (λ x. refl) i;

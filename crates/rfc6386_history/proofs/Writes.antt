@@ -23,7 +23,7 @@ use Rattle.rfc6386.specs.Call.{Probs, segmented, adjusted, coeffsOver, mvOver, 
 use Rattle.rfc6386_history.specs.Kept.{flagged, numbers}
 use Rattle.vp8_records.specs.Shape.{SizedCoeffs, SizedMv, Sized}
 use Rattle.rfc6386_history.specs.History.{fit, bytes, written}
-use Rattle.vp8_records.proofs.Parts.{Laid, coeffs, mv}
+use Rattle.vp8_records.proofs.Parts.{Laid, mv}
 use Rattle.rfc6386.proofs.Runs.{length-over, over-append}
 use Rattle.rfc6386_history.proofs.Runs.{length-fit, over-fit, over-map}
 
@@ -98,8 +98,7 @@ applied c p s =
     then flag (some (c .deltas .update)) (a .«mode_ref_lf_delta_update»)
     then values 4 (c .deltas .frames) (a .«ref_frame_delta») (s .frames)
     then values 4 (c .deltas .modes) (a .«mb_mode_delta») (s .modes)
-    then saves 1056 e (λ q. flatCoeffs (q .coeffs)) new old (c .coeffs)
-    (coeffs .size (p .«coeff_prob») (s .coeffs)) (over-there coeffs (c .coeffs) (p .«coeff_prob») (s .coeffs))
+    then saves 1056 e (λ q. flatCoeffs (q .coeffs)) new old (c .coeffs) (s .coeffs) refl
     then saves 38 e (λ q. flatMv (q .mv)) new old (c .inter .motion)
     (mv .size (p .«mv_prob») (s .motion)) (over-there mv (c .inter .motion) (p .«mv_prob») (s .motion))
     then saves 4 e (λ q. q .modes .«intra_16x16_prob») new old (c .inter .luma) (s .luma) refl
@@ -129,7 +128,7 @@ sized-fresh = record {
   probs = refl;
   frames = refl;
   modes = refl;
-  coeffs = coeffs .good coeffDefault (lit≤ tt);
+  coeffs = refl;
   motion = mv .good mvDefault (lit≤ tt);
   luma = refl;
   chroma = refl;
@@ -147,7 +146,7 @@ sized-apply c p s = record {
   probs = length-over (c .segments .probs) _ ∙ s .probs;
   frames = length-over (c .deltas .frames) _ ∙ s .frames;
   modes = length-over (c .deltas .modes) _ ∙ s .modes;
-  coeffs = saved (λ q. SizedCoeffs (q .coeffs)) (over-good coeffs (c .coeffs) (p .«coeff_prob») (s .coeffs)) (s .coeffs);
+  coeffs = saved (λ q. SizedCoeffs (q .coeffs)) (length-over (c .coeffs) _ ∙ s .coeffs) (s .coeffs);
   motion = saved (λ q. SizedMv (q .mv)) (over-good mv (c .inter .motion) (p .«mv_prob») (s .motion)) (s .motion);
   luma = saved (λ q. length (q .modes .«intra_16x16_prob») ≡ 4) (length-over (c .inter .luma) _ ∙ s .luma) (s .luma);
   chroma = saved (λ q. length (q .modes .«intra_chroma_prob») ≡ 3) (length-over (c .inter .chroma) _ ∙ s .chroma) (s .chroma);

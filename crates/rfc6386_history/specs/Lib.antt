@@ -4,8 +4,10 @@
 --   History: which frames cut off the past, and what a frame writes to each kept number.
 --   Answered: the answers of running code, one call after the other.
 --   Past: a header's parts that the past may touch.
+--   Nested: the coefficient probabilities over calls, in their nested layout.
 pub mod Refusals
 pub mod Kept
 pub mod History
 pub mod Answered
 pub mod Past
+pub mod Nested

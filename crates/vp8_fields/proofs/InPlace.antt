@@ -1,13 +1,13 @@
 -- A loop that reads each element anew in its place is the definition's state-free read, written over what was there: one law for a loop
 -- over numbers, one for a loop over records, for every read, length and layout. By induction on the list.
 use Prim.Native.Nat.{ℕ, zero, suc, _+_, _*_, _≤_}
-use native.Mathlib.Nat.{suc-mul, zero-mul, add-zero, zero-add, add-suc, suc-add}
+use native.Mathlib.Nat.{suc-mul, zero-mul, add-zero, add-suc}
 use native.Mathlib.Omega.{arith}
 use mathlib.Core.Path.{_≡_, refl, sym, ap, ap₂, _∙_, fun-ext}
 use mathlib.Core.Option.{Option, some}
 use mathlib.Core.List.{List, [], _∷_, _++_}
 use lib.ListN.{length, getD, take, drop, replicate, length-drop, length-replicate}
-use lib.Seq.{drop-cons, drop-drop, take-add, drop-at, length-take-le, take-at, take-take, take-nil}
+use lib.Seq.{drop-cons, drop-drop, take-add, drop-at, length-take-le, take-at}
 use Rattle.vp8_records.specs.Layout.{rows, joined}
 use Rattle.vp8_records.specs.Shape.{Every}
 use Rattle.rfc6386.specs.Reads.{Rd, ret, ask, _>>=_, flag, make, times, each, maybe, orElse}
@@ -142,23 +142,6 @@ pub leaf : {A R : Type 0} (wrap : List A → R) (f : ℕ → A → Rd A) (g : �
 leaf {A} {R} wrap f g t at n h xs e fits =
     ap (λ (m : Rd (List A)). make wrap m) (rw (add-zero, e) at (loop-over f g t at h 0 xs (rw (add-zero, e) fits)))
     ∙ make-make (each g (take n (drop at t))) (λ us. over us xs) wrap
-
-drop-take : (n m : ℕ) (l : List ℕ) → drop n (take (n + m) l) ≡ take m (drop n l)
-drop-take zero m l = ap (λ (k : ℕ). take k l) (zero-add m)
-drop-take (suc n) m [] = ap (λ (l : List ℕ). drop (suc n) l) (take-nil (suc n + m)) ∙ sym (take-nil m)
-drop-take (suc n) m (x ∷ xs) = ap (λ (k : ℕ). drop (suc n) (take k (x ∷ xs))) (suc-add n m) ∙ drop-take n m xs
-
--- k records read no more than k · n numbers, where a record reads no more than n
-pub rows-own : {A : Type 0} (laid : List ℕ → A) (n : ℕ) → ((ys : List ℕ) → laid ys ≡ laid (take n ys))
-    → (k : ℕ) (ys : List ℕ) → rows k n laid ys ≡ rows k n laid (take (k * n) ys)
-unfolding rows
-rows-own laid n own zero ys = refl
-rows-own {A} laid n own (suc k) ys =
-    let all : suc k * n ≡ n + k * n = omega (arith, suc-mul k n) in
-    let head : laid ys ≡ laid (take (suc k * n) ys) =
-    own ys ∙ ap laid (sym (take-take n (suc k * n) ys (omega (arith, all)))) ∙ sym (own (take (suc k * n) ys)) in
-    let tail : drop n (take (suc k * n) ys) ≡ take (k * n) (drop n ys) = ap (λ (j : ℕ). drop n (take j ys)) all ∙ drop-take n (k * n) ys in
-    ap₂ {C = List A} (λ y zs. y ∷ zs) head (rows-own laid n own k (drop n ys) ∙ ap (λ (l : List ℕ). rows k n laid l) (sym tail))
 
 times-cons : {A C : Type 0} (n : ℕ) (m : Rd A) (k : List A → Rd C)
     → times (suc n) m >>= k ≡ m >>= (λ x. times n m >>= (λ xs. k (x ∷ xs)))

@@ -1,6 +1,4 @@
 -- Laws that the sub-headers' proofs share, and those above cite.
 pub mod InPlace
-pub mod Shapes
 pub mod Same
 pub mod Turns
-pub mod Nested

@@ -2,22 +2,19 @@
 // A signed number is its two's complement byte, a flag 0 or 1. The writers put a run into a lent buffer, as `text` does.
 pub mod header;
 
-use vp8_records::Bands;
 use vp8_records::CoeffProbs;
-use vp8_records::Contexts;
 use vp8_records::MbLfAdjustments;
 use vp8_records::ModeProbs;
 use vp8_records::MvContext;
 use vp8_records::MvProbs;
 use vp8_records::Parser;
 use vp8_records::Segmentation;
-use vp8_records::Tokens;
 ghost use mathlib.Core.Path.{_≡_};
 ghost use mathlib.Core.List.{map};
 ghost use mir.Val.{ofZ};
 ghost use mir.Syntax.{w8};
 ghost use Rattle.text.specs.Text.{text, puts};
-ghost use Rattle.vp8_records.specs.Layout.{flatTokens, flatContexts, flatBands, flatCoeffs, flatMvContext, flatMv};
+ghost use Rattle.vp8_records.specs.Layout.{flatCoeffs, flatMvContext, flatMv};
 ghost use Rattle.vp8_flat.specs.Bytes.{bitOf, flatModes, segmentationBytes, adjustmentBytes, keptBytes};
 
 // A flag as 0 or 1.
@@ -46,50 +43,6 @@ fn put_signed(out: &mut [u8], at: usize, v: [i8; 4]) -> usize
     let mut i = 0;
     while i < 4 {
         to = text::byte(out, to, byte_of(v[i]));
-        i += 1;
-    }
-    to
-}
-
-fn put_tokens(out: &mut [u8], at: usize, tokens: Tokens) -> usize
-    ensures { λ r. ⌜ text (now (out .exit)) r ≡ puts (text (now (out .entry)) at) (flatTokens tokens) ⌝ }
-{
-    let v = tokens.v;
-    text::bytes(out, at, &v)
-}
-
-fn put_contexts(out: &mut [u8], at: usize, contexts: Contexts) -> usize
-    ensures { λ r. ⌜ text (now (out .exit)) r ≡ puts (text (now (out .entry)) at) (flatContexts contexts) ⌝ }
-{
-    let mut to = at;
-    let mut k = 0;
-    while k < 3 {
-        to = put_tokens(out, to, contexts.v[k]);
-        k += 1;
-    }
-    to
-}
-
-fn put_bands(out: &mut [u8], at: usize, bands: Bands) -> usize
-    ensures { λ r. ⌜ text (now (out .exit)) r ≡ puts (text (now (out .entry)) at) (flatBands bands) ⌝ }
-{
-    let mut to = at;
-    let mut j = 0;
-    while j < 8 {
-        to = put_contexts(out, to, bands.v[j]);
-        j += 1;
-    }
-    to
-}
-
-// The 1,056 coefficient probabilities (RFC 6386 section 13.4).
-pub fn put_coeffs(out: &mut [u8], at: usize, coeffs: CoeffProbs) -> usize
-    ensures { λ r. ⌜ text (now (out .exit)) r ≡ puts (text (now (out .entry)) at) (flatCoeffs coeffs) ⌝ }
-{
-    let mut to = at;
-    let mut i = 0;
-    while i < 4 {
-        to = put_bands(out, to, coeffs.v[i]);
         i += 1;
     }
     to
@@ -163,12 +116,12 @@ pub fn put_parser(out: &mut [u8], at: usize, parser: Parser) -> usize
 {
     let segmentation = parser.segmentation;
     let adjustments = parser.mb_lf_adjust;
-    let coeffs = parser.coeff_prob;
+    let coeffs = parser.coeff_prob.v;
     let motion = parser.mv_prob;
     let modes = parser.mode_probs;
     let to = put_segmentation(out, at, segmentation);
     let to = put_adjustments(out, to, adjustments);
-    let to = put_coeffs(out, to, coeffs);
+    let to = text::bytes(out, to, &coeffs);
     let to = put_motion(out, to, motion);
     put_modes(out, to, modes)
 }
@@ -186,9 +139,7 @@ pub fn kept(parser: Parser) -> [u8; 1126]
 pub fn coeffs(c: CoeffProbs) -> [u8; 1056]
     ensures { λ r. ⌜ r ≡ flatCoeffs c ⌝ }
 {
-    let mut out = [0u8; 1056];
-    put_coeffs(&mut out, 0, c);
-    out
+    c.v
 }
 
 // The motion probabilities, as an array.

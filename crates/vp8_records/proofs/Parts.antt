@@ -7,8 +7,9 @@ use mathlib.Core.Path.{_≡_, refl, sym, ap, ap₂, _∙_}
 use mathlib.Core.List.{List, [], _∷_, _++_, append-assoc}
 use lib.ListN.{length, take, drop, length-append, length-drop}
 use lib.Seq.{length-take-le, take-add, take-at, drop-at}
-use Rattle.vp8_records.specs.Layout.{rows, joined, laidTokens, laidContexts, laidBands, laidCoeffs, laidMvContext, laidMv, flatTokens, flatContexts, flatBands, flatCoeffs, flatMvContext, flatMv}
-use Rattle.vp8_records.specs.Shape.{Every, Each, SizedTokens, SizedContexts, SizedBands, SizedCoeffs, SizedMvContext, SizedMv}
+use Rattle.vp8_records.specs.Layout.{rows, joined, laidMvContext, laidMv, flatMvContext, flatMv}
+use Rattle.vp8_records.specs.Nested.{laidTokens, laidContexts, laidBands, laidNested, flatTokens, flatContexts, flatBands, flatNested, SizedTokens, SizedContexts, SizedBands, SizedNested}
+use Rattle.vp8_records.specs.Shape.{Every, Each, SizedMvContext, SizedMv}
 
 -- a part is laid out by the first n numbers of a run, and is back from its own
 pub record Laid {A : Type 0} (flat : A → List ℕ) (laid : List ℕ → A) (n : ℕ) (Good : A → Type 0) : Type 0 where
@@ -75,8 +76,8 @@ contexts = in-rows _ _ 11 _ tokens 3 (λ r. r .v) (λ xs. record { v = xs }) (λ
 pub bands : Laid flatBands laidBands 264 SizedBands
 bands = in-rows _ _ 33 _ contexts 8 (λ r. r .v) (λ xs. record { v = xs }) (λ xs. refl) (λ r. refl)
 
-pub coeffs : Laid flatCoeffs laidCoeffs 1056 SizedCoeffs
-coeffs = in-rows _ _ 264 _ bands 4 (λ r. r .v) (λ xs. record { v = xs }) (λ xs. refl) (λ r. refl)
+pub nested : Laid flatNested laidNested 1056 SizedNested
+nested = in-rows _ _ 264 _ bands 4 (λ r. r .v) (λ xs. record { v = xs }) (λ xs. refl) (λ r. refl)
 
 pub mvContext : Laid flatMvContext laidMvContext 19 SizedMvContext
 mvContext = record {

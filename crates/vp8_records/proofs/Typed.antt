@@ -9,21 +9,13 @@ use base.Fml.{Fml}
 use denote.Laws.{Is}
 use denote.Shadow.{shadow}
 use denote.Array.{inArray}
-use Rattle.vp8_records.specs.declared.Tokens.{Tokens}
-use Rattle.vp8_records.specs.declared.Contexts.{Contexts}
-use Rattle.vp8_records.specs.declared.Bands.{Bands}
-use Rattle.vp8_records.specs.declared.CoeffProbs.{CoeffProbs}
 use Rattle.vp8_records.specs.declared.MvContext.{MvContext}
 use Rattle.vp8_records.specs.declared.MvProbs.{MvProbs}
 use Rattle.vp8_records.specs.declared.Parser.{Parser}
-use Rattle.vp8_records.specs.Shape.{Each, SizedTokens, SizedContexts, SizedBands, SizedCoeffs, SizedMvContext, SizedMv, Sized}
+use Rattle.vp8_records.specs.Shape.{Each, SizedMvContext, SizedMv, Sized}
 use Rattle.vp8_records.proofs.Arrays.{length-mapped, every-of}
-use Rattle.vp8_records.proofs.Tokens as T₁
-use Rattle.vp8_records.proofs.Contexts as T₂
-use Rattle.vp8_records.proofs.Bands as T₃
-use Rattle.vp8_records.proofs.CoeffProbs as T₄
-use Rattle.vp8_records.proofs.MvContext as T₅
-use Rattle.vp8_records.proofs.MvProbs as T₆
+use Rattle.vp8_records.proofs.MvContext as T₁
+use Rattle.vp8_records.proofs.MvProbs as T₂
 use Rattle.vp8_records.proofs.Parser as T
 
 -- an array of n values, each of which is held as some d
@@ -35,22 +27,10 @@ module _ {B d : Type 0} (f : d → List Val → Fml) (g : B → d) where
       → (xs : List B) (vs : List Val) → shadow (inArray d f n (map g xs) vs) → Each n P xs
   each-of n P h xs vs o = (sized-array n xs vs o, every-of d f g P h xs (o .0) (o .1 .1))
 
-tokens : (x : Tokens) (vs : List Val) → Is T₁.the-row x vs → SizedTokens x
-tokens x vs h = sized-array _ _ 11 (x .v) _ (h .1 .1 .0)
-
-contexts : (x : Contexts) (vs : List Val) → Is T₂.the-row x vs → SizedContexts x
-contexts x vs h = each-of _ _ 3 SizedTokens (λ y u i. tokens y _ i) (x .v) _ (h .1 .1 .0)
-
-bands : (x : Bands) (vs : List Val) → Is T₃.the-row x vs → SizedBands x
-bands x vs h = each-of _ _ 8 SizedContexts (λ y u i. contexts y _ i) (x .v) _ (h .1 .1 .0)
-
-coeffs : (x : CoeffProbs) (vs : List Val) → Is T₄.the-row x vs → SizedCoeffs x
-coeffs x vs h = each-of _ _ 4 SizedBands (λ y u i. bands y _ i) (x .v) _ (h .1 .1 .0)
-
-mvContext : (x : MvContext) (vs : List Val) → Is T₅.the-row x vs → SizedMvContext x
+mvContext : (x : MvContext) (vs : List Val) → Is T₁.the-row x vs → SizedMvContext x
 mvContext x vs h = sized-array _ _ 19 (x .v) _ (h .1 .1 .0)
 
-mv : (x : MvProbs) (vs : List Val) → Is T₆.the-row x vs → SizedMv x
+mv : (x : MvProbs) (vs : List Val) → Is T₂.the-row x vs → SizedMv x
 mv x vs h = each-of _ _ 2 SizedMvContext (λ y u i. mvContext y _ i) (x .v) _ (h .1 .1 .0)
 
 pub typed-sized : (p : Parser) (vs : List Val) → Is T.the-row p vs → Sized p
@@ -65,7 +45,7 @@ typed-sized p vs h =
       probs = sized-array _ _ 3 (p .segmentation .«segment_prob») _ (segmentation .1 .1 .1 .1 .1 .1 .0);
       frames = sized-array _ _ 4 (p .«mb_lf_adjust» .«ref_frame_delta») _ (adjust .1 .1 .0);
       modes = sized-array _ _ 4 (p .«mb_lf_adjust» .«mb_mode_delta») _ (adjust .1 .1 .1 .0);
-      coeffs = coeffs (p .«coeff_prob») _ (probs .0);
+      coeffs = sized-array _ _ 1056 (p .«coeff_prob» .v) _ (probs .0 .1 .1 .0);
       motion = mv (p .«mv_prob») _ (probs .1 .0);
       luma = sized-array _ _ 4 (p .«mode_probs» .«intra_16x16_prob») _ (modes .0);
       chroma = sized-array _ _ 3 (p .«mode_probs» .«intra_chroma_prob») _ (modes .1 .0);

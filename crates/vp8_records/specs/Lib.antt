@@ -1,5 +1,6 @@
 -- What a reader must believe of the records.
 --   Layout: their numbers as flat runs, and where each entry stands.
+--   Nested: the coefficient probabilities as nested records, which hold the same entries.
 --   Start: their starting values, and the blank header.
 --   Outcome: an outcome's number, and the values that it carries.
 --   Mode: a mode by its number.
@@ -11,5 +12,6 @@ pub mod Start
 pub mod Outcome
 pub mod Mode
 pub mod Shape
+pub mod Nested
 pub mod Length
 pub mod Place

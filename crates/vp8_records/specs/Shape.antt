@@ -3,9 +3,6 @@ use Prim.Native.Nat.{ℕ}
 use mathlib.Core.Path.{_≡_}
 use mathlib.Core.List.{List, [], _∷_}
 use lib.ListN.{length}
-use Rattle.vp8_records.specs.declared.Tokens.{Tokens}
-use Rattle.vp8_records.specs.declared.Contexts.{Contexts}
-use Rattle.vp8_records.specs.declared.Bands.{Bands}
 use Rattle.vp8_records.specs.declared.CoeffProbs.{CoeffProbs}
 use Rattle.vp8_records.specs.declared.MvContext.{MvContext}
 use Rattle.vp8_records.specs.declared.MvProbs.{MvProbs}
@@ -19,17 +16,8 @@ Every P (x ∷ xs) = P x × Every P xs
 abbrev pub Each : {A : Type 0} → ℕ → (A → Type 0) → List A → Type 0
 Each n P xs = (length xs ≡ n) × Every P xs
 
-abbrev pub SizedTokens : Tokens → Type 0
-SizedTokens r = length (r .v) ≡ 11
-
-abbrev pub SizedContexts : Contexts → Type 0
-SizedContexts r = Each 3 SizedTokens (r .v)
-
-abbrev pub SizedBands : Bands → Type 0
-SizedBands r = Each 8 SizedContexts (r .v)
-
 abbrev pub SizedCoeffs : CoeffProbs → Type 0
-SizedCoeffs r = Each 4 SizedBands (r .v)
+SizedCoeffs r = length (r .v) ≡ 1056
 
 abbrev pub SizedMvContext : MvContext → Type 0
 SizedMvContext r = length (r .v) ≡ 19

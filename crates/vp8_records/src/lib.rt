@@ -2,7 +2,7 @@
 ghost use mathlib.Core.Path.{_≡_};
 ghost use Prim.Native.Nat.{_+_, _*_, _^_, _<_, _≤_};
 ghost use lib.ListN.{length, take, drop};
-ghost use Rattle.vp8_records.specs.Layout.{laidTokens, laidContexts, laidBands, laidCoeffs, laidMvContext, laidMv};
+ghost use Rattle.vp8_records.specs.Layout.{coeffIndex, laidMvContext, laidMv};
 ghost use Rattle.vp8_records.specs.Start.{freshSegmentation, freshAdjustments, freshCoeffs, freshMv, freshModes, keyModes, fresh};
 ghost use Rattle.vp8_records.specs.Start.{noQuant, noCoeffs, noMv, noModes, blank};
 ghost use Rattle.vp8_records.specs.Place.{further};
@@ -64,28 +64,10 @@ pub struct ModeProbs {
     pub intra_chroma_prob: [u8; 3],
 }
 
-// The eleven token probabilities of one context of one band of one block type.
-pub struct Tokens {
-    // One for each place of the token tree (13.2).
-    pub v: [u8; 11],
-}
-
-// The three contexts of a band.
-pub struct Contexts {
-    // One for each context: what the neighbours left (13.3).
-    pub v: [Tokens; 3],
-}
-
-// The eight bands of a block type.
-pub struct Bands {
-    // One for each band of coefficient positions (13.3).
-    pub v: [Contexts; 8],
-}
-
-// The coefficient probabilities of the four block types.
+// The coefficient probabilities, as one run: `coeff_index` tells where an entry stands.
 pub struct CoeffProbs {
-    // One for each block type (13.3).
-    pub v: [Bands; 4],
+    // One for each block type, band, context and place of the token tree (13.3).
+    pub v: [u8; 1056],
 }
 
 // The nineteen probabilities of one component of a motion vector.
@@ -375,79 +357,28 @@ impl ModeProbs {
     }
 }
 
-// The eleven numbers from a place of a flat run on.
-fn tokens_at(flat: &[u8], at: usize) -> Tokens
-    requires { ⌜ at + 11 ≤ length (now flat) ⌝ }
-    ensures { λ r. ⌜ r ≡ laidTokens (drop at (now (flat .entry))) ⌝ }
+// Where the entry of a block type, a band, a context and a place of the token tree stands among the coefficient probabilities (13.3).
+pub fn coeff_index(i: u8, j: u8, k: u8, l: u8) -> usize
+    ensures { λ r. ⌜ r ≡ coeffIndex i j k l ⌝ }
 {
-    let mut v = [0u8; 11];
-    let mut l = 0;
-    while l < 11 {
-        v[l] = flat[at + l];
-        l += 1;
-    }
-    Tokens { v }
-}
-
-// The thirty-three from there on.
-fn contexts_at(flat: &[u8], at: usize) -> Contexts
-    requires { ⌜ at + 33 ≤ length (now flat) ⌝ }
-    ensures { λ r. ⌜ r ≡ laidContexts (drop at (now (flat .entry))) ⌝ }
-{
-    let k0 = tokens_at(flat, at);
-    let k1 = tokens_at(flat, at + 11);
-    let k2 = tokens_at(flat, at + 22);
-    Contexts { v: [k0, k1, k2] }
-}
-
-// The 264 from there on.
-fn bands_at(flat: &[u8], at: usize) -> Bands
-    requires { ⌜ at + 264 ≤ length (now flat) ⌝ }
-    ensures { λ r. ⌜ r ≡ laidBands (drop at (now (flat .entry))) ⌝ }
-{
-    let j0 = contexts_at(flat, at);
-    let j1 = contexts_at(flat, at + 33);
-    let j2 = contexts_at(flat, at + 66);
-    let j3 = contexts_at(flat, at + 99);
-    let j4 = contexts_at(flat, at + 132);
-    let j5 = contexts_at(flat, at + 165);
-    let j6 = contexts_at(flat, at + 198);
-    let j7 = contexts_at(flat, at + 231);
-    Bands {
-        v: [j0, j1, j2, j3, j4, j5, j6, j7],
-    }
+    ((8 * i as usize + j as usize) * 3 + k as usize) * 11 + l as usize
 }
 
 impl CoeffProbs {
-    // The nested records out of one flat run, in the order of the table (13.4).
-    pub fn laid(flat: &[u8; 1056]) -> Self
-        ensures { λ r. ⌜ r ≡ laidCoeffs (now (flat .entry)) ⌝ }
-    {
-        let i0 = bands_at(flat, 0);
-        let i1 = bands_at(flat, 264);
-        let i2 = bands_at(flat, 528);
-        let i3 = bands_at(flat, 792);
-        CoeffProbs {
-            v: [i0, i1, i2, i3],
-        }
-    }
-
     // What a parser starts with: the default table (13.5).
     pub fn new() -> Self
         ensures { λ r. ⌜ r ≡ freshCoeffs ⌝ }
     {
-        let flat = vp8_probs::tables::COEFF_DEFAULT_PROBS;
-        CoeffProbs::laid(&flat)
+        CoeffProbs {
+            v: vp8_probs::tables::COEFF_DEFAULT_PROBS,
+        }
     }
 
     // All zeros: part of a refusal's header.
     pub fn blank() -> Self
         ensures { λ r. ⌜ r ≡ noCoeffs ⌝ }
     {
-        let tokens = Tokens { v: [0; 11] };
-        let contexts = Contexts { v: [tokens; 3] };
-        let bands = Bands { v: [contexts; 8] };
-        CoeffProbs { v: [bands; 4] }
+        CoeffProbs { v: [0; 1056] }
     }
 }
 

@@ -3,14 +3,13 @@ use mathlib.Core.Path.{sym, _∙_}
 use borrow.Author.Needs.{needs}
 use Rattle.vp8_records.proofs.Arrays.{length-mapped, every-of}
 use Rattle.vp8_flat.proofs.Runs.{full}
-use Rattle.vp8_records.specs.Shape.{Sized, SizedBands, SizedContexts, SizedTokens, SizedMvContext}
+use Rattle.vp8_records.specs.Shape.{Sized, SizedMvContext}
 use Rattle.vp8_flat.proofs.Whole.{how-long}
 use Rattle.vp8_flat.proofs.kept.Statement.{statement}
 use Rattle.vp8_flat.proofs.kept.Tie as tie
 
 sized : (c : tie.Start) → Sized (c .args .parser)
 sized c =
-    let g = c .good .0 .1 .1 .1 .1 .0 .1 .1 .0 in
     let m = c .good .0 .1 .1 .1 .1 .1 .0 .1 .1 .0 in
     record {
       quantizers = search needs;
@@ -18,20 +17,7 @@ sized c =
       probs = search needs;
       frames = search needs;
       modes = search needs;
-      coeffs = (
-        search (needs, length-mapped),
-        every-of _ _ _ SizedBands
-            (λ x u h. (
-              search (needs, length-mapped),
-              every-of _ _ _ SizedContexts
-                  (λ y w i. (
-                    search (needs, length-mapped),
-                    every-of _ _ _ SizedTokens (λ z t j. search (needs, length-mapped)) (y .v) (i .1 .1 .0 .0) (i .1 .1 .0 .1 .1),
-                  ))
-                  (x .v) (h .1 .1 .0 .0) (h .1 .1 .0 .1 .1),
-            ))
-            (c .args .parser .«coeff_prob» .v) (g .0) (g .1 .1),
-      );
+      coeffs = search needs;
       motion = (
         search (needs, length-mapped),
         every-of _ _ _ SizedMvContext (λ x u h. search (needs, length-mapped)) (c .args .parser .«mv_prob» .v) (m .0) (m .1 .1),

@@ -1,5 +1,4 @@
--- After i turns the rows of the first i are put: the law is `Put` of `Runs`. The checker names each loop's needs by its function, so the
--- four loops over rows (contexts, bands, coeffs, motion) answer them alike in a file each.
+-- After i turns the rows of the first i are put: the law is `Put` of `Runs`.
 use Prim.Native.Nat.{_-_}
 use mathlib.Core.Path.{_≡_}
 use lib.ListN.{length}

@@ -11,8 +11,11 @@ put-segmentation-requires c κs = search needs
 put-adjustments-requires : tie.Need-put-adjustments-requires
 put-adjustments-requires c κs = search needs
 
-put-coeffs-requires : tie.Need-put-coeffs-requires
-put-coeffs-requires c κs = search needs
+slice-aggregate-bytes : tie.Need-slice-aggregate-bytes
+slice-aggregate-bytes c = search needs
+
+bytes-requires : tie.Need-bytes-requires
+bytes-requires c κs = search needs
 
 put-motion-requires : tie.Need-put-motion-requires
 put-motion-requires c κs = search needs
@@ -28,13 +31,13 @@ returns c =
     let at-modes = c .before .before in
     let at-motion = at-modes .before .before .before .before in
     let at-coeffs = at-motion .before .before .before .before in
-    let at-adjustments = at-coeffs .before .before .before .before in
+    let at-adjustments = at-coeffs .before .before .before .before .before in
     let at-segmentation = at-adjustments .before .before .before .before in
     let at-fields = at-segmentation .before .before in
     worded _ _ _ _
     (then _ _ _ _ _ (at-segmentation .put-segmentation .ensures)
     (then _ _ _ _ _ (at-adjustments .put-adjustments .ensures)
-    (then _ _ _ _ _ (at-coeffs .put-coeffs .ensures)
+    (then _ _ _ _ _ (at-coeffs .bytes .ensures)
     (then _ _ _ _ _ (at-motion .put-motion .ensures) (at-modes .put-modes .ensures)))))
     (kept-is (at-fields .before .before .before .before .before .before .args .parser))
 
@@ -44,7 +47,8 @@ put-parser-spec =
     (tie.spec
     put-segmentation-requires
     put-adjustments-requires
-    put-coeffs-requires
+    slice-aggregate-bytes
+    bytes-requires
     put-motion-requires
     put-modes-requires
     same-length

@@ -10,11 +10,11 @@ use Rattle.bool_decoder.proofs.zeros.fours.Statement.{statement}
 use Rattle.bool_decoder.proofs.zeros.fours.Tie as tie
 
 abbrev Inv-loop : tie.InvT-loop
-Inv-loop area table dec at from end stop bound low₀ i₀ low i =
-    (i ≤ end) × (low < 256) × Quiet area table at from dec i (narrowed dec low (i - from))
+Inv-loop area table dec from end stop bound low₀ i₀ low i =
+    (i ≤ end) × (low < 256) × Quiet area table from dec i (narrowed dec low (i - from))
 
 abbrev μ-loop : tie.MeasureT-loop
-μ-loop area table dec at from end stop bound low₀ i₀ low i = end - i
+μ-loop area table dec from end stop bound low₀ i₀ low i = end - i
 
 less-three-requires : tie.Need-less-three-requires Inv-loop μ-loop
 less-three-requires c κs = search needs
@@ -32,20 +32,14 @@ loop-holds c =
     let pre = c .before .before .before .before .before .pre in
     (pre .order, omega (arith, pre .good .over .high), starts _ (pre .good .over .low))
 
-add-step : tie.Need-add-step Inv-loop μ-loop
-add-step c = search needs
-
 shared-slice-read-step : tie.Need-shared-slice-read-step Inv-loop μ-loop
 shared-slice-read-step c = search needs
 
 step-requires : tie.Need-step-requires Inv-loop μ-loop
 step-requires c κs = search needs
 
-add-step-2 : tie.Need-add-step-2 Inv-loop μ-loop
-add-step-2 c = search needs
-
-add-step-3 : tie.Need-add-step-3 Inv-loop μ-loop
-add-step-3 c = search needs
+add-step : tie.Need-add-step Inv-loop μ-loop
+add-step c = search needs
 
 shared-slice-read-step-2 : tie.Need-shared-slice-read-step-2 Inv-loop μ-loop
 shared-slice-read-step-2 c = search needs
@@ -53,11 +47,8 @@ shared-slice-read-step-2 c = search needs
 step-requires-2 : tie.Need-step-requires-2 Inv-loop μ-loop
 step-requires-2 c κs = search needs
 
-add-step-4 : tie.Need-add-step-4 Inv-loop μ-loop
-add-step-4 c = search needs
-
-add-step-5 : tie.Need-add-step-5 Inv-loop μ-loop
-add-step-5 c = search needs
+add-step-2 : tie.Need-add-step-2 Inv-loop μ-loop
+add-step-2 c = search needs
 
 shared-slice-read-step-3 : tie.Need-shared-slice-read-step-3 Inv-loop μ-loop
 shared-slice-read-step-3 c = search needs
@@ -65,11 +56,8 @@ shared-slice-read-step-3 c = search needs
 step-requires-3 : tie.Need-step-requires-3 Inv-loop μ-loop
 step-requires-3 c κs = search needs
 
-add-step-6 : tie.Need-add-step-6 Inv-loop μ-loop
-add-step-6 c = search needs
-
-add-step-7 : tie.Need-add-step-7 Inv-loop μ-loop
-add-step-7 c = search needs
+add-step-3 : tie.Need-add-step-3 Inv-loop μ-loop
+add-step-3 c = search needs
 
 shared-slice-read-step-4 : tie.Need-shared-slice-read-step-4 Inv-loop μ-loop
 shared-slice-read-step-4 c = search needs
@@ -104,12 +92,12 @@ loop-again c =
     let t2 : d .limit ≤ at-2 .step2 .result + 1 = omega (arith, t3, r3 .1) in
     let t1 : d .limit ≤ at-1 .step .result + 1 = omega (arith, t2, r2 .1) in
     let i = at-loop .loop .i in
-    let q1 = goes d (i + 1) _ _ (start .pre) (omega (arith, left)) refl refl (inv .2) (r1 .0) (r1 .1) t1 in
-    let q2 = goes d (i + 2) _ _ (start .pre) (omega (arith, left)) (omega arith) (omega arith) q1 (r2 .0) (r2 .1) t2 in
-    let q3 = goes d (i + 3) _ _ (start .pre) (omega (arith, left)) (omega arith) (omega arith) q2 (r3 .0) (r3 .1) t3 in (
+    let q1 = goes d (i + 1) _ _ (start .pre) (omega (arith, left)) refl (inv .2) (r1 .0) (r1 .1) t1 in
+    let q2 = goes d (i + 2) _ _ (start .pre) (omega (arith, left)) (omega arith) q1 (r2 .0) (r2 .1) t2 in
+    let q3 = goes d (i + 3) _ _ (start .pre) (omega (arith, left)) (omega arith) q2 (r3 .0) (r3 .1) t3 in (
       omega (arith, left),
       omega (arith, inv .1, r1 .1, r2 .1, r3 .1, r4 .1),
-      goes d _ _ _ (start .pre) (omega (arith, left)) (omega arith) (omega arith) q3 (r4 .0) (r4 .1) t4,
+      goes d _ _ _ (start .pre) (omega (arith, left)) (omega arith) q3 (r4 .0) (r4 .1) t4,
     )
 
 sub-narrow : tie.Need-sub-narrow Inv-loop μ-loop
@@ -137,19 +125,15 @@ fours-spec =
     sub-bound
     sub-low
     loop-holds
-    add-step
     shared-slice-read-step
     step-requires
-    add-step-2
-    add-step-3
+    add-step
     shared-slice-read-step-2
     step-requires-2
-    add-step-4
-    add-step-5
+    add-step-2
     shared-slice-read-step-3
     step-requires-3
-    add-step-6
-    add-step-7
+    add-step-3
     shared-slice-read-step-4
     step-requires-4
     add-i

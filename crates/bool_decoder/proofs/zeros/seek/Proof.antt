@@ -10,16 +10,13 @@ use Rattle.bool_decoder.proofs.zeros.seek.Statement.{statement}
 use Rattle.bool_decoder.proofs.zeros.seek.Tie as tie
 
 abbrev Inv-loop : tie.InvT-loop
-Inv-loop area table at from end next₀ i₀ next i = (i ≤ end) × Quiet area table at from next₀ i next
+Inv-loop area table from end next₀ i₀ next i = (i ≤ end) × Quiet area table from next₀ i next
 
 abbrev μ-loop : tie.MeasureT-loop
-μ-loop area table at from end next₀ i₀ next i = end - i
+μ-loop area table from end next₀ i₀ next i = end - i
 
 loop-holds : tie.Need-loop-holds Inv-loop μ-loop
 loop-holds c = (c .before .before .pre .order, here)
-
-add-read-bit : tie.Need-add-read-bit Inv-loop μ-loop
-add-read-bit c = search needs
 
 shared-slice-read-read-bit : tie.Need-shared-slice-read-read-bit Inv-loop μ-loop
 shared-slice-read-read-bit c = search needs
@@ -73,7 +70,6 @@ seek-spec =
     Inv-loop
     μ-loop
     loop-holds
-    add-read-bit
     shared-slice-read-read-bit
     read-bit-requires
     returns

@@ -10,11 +10,11 @@ use Rattle.bool_decoder.proofs.zeros.singles.Statement.{statement}
 use Rattle.bool_decoder.proofs.zeros.singles.Tie as tie
 
 abbrev Inv-loop : tie.InvT-loop
-Inv-loop area table dec at from end bound low₀ i₀ low i =
-    (i ≤ end) × (low < 256) × Quiet area table at from dec i (narrowed dec low (i - from))
+Inv-loop area table dec from end bound low₀ i₀ low i =
+    (i ≤ end) × (low < 256) × Quiet area table from dec i (narrowed dec low (i - from))
 
 abbrev μ-loop : tie.MeasureT-loop
-μ-loop area table dec at from end bound low₀ i₀ low i = end - i
+μ-loop area table dec from end bound low₀ i₀ low i = end - i
 
 sub-bound : tie.Need-sub-bound Inv-loop μ-loop
 sub-bound c =
@@ -28,9 +28,6 @@ loop-holds : tie.Need-loop-holds Inv-loop μ-loop
 loop-holds c =
     let pre = c .before .before .before .before .pre in
     (pre .order, omega (arith, pre .good .over .high), starts _ (pre .good .over .low))
-
-add-step : tie.Need-add-step Inv-loop μ-loop
-add-step c = search needs
 
 shared-slice-read-step : tie.Need-shared-slice-read-step Inv-loop μ-loop
 shared-slice-read-step c = search needs
@@ -52,7 +49,7 @@ loop-again c =
     let lt = c .before .before .before .loop-test .taken in
     let r = c .before .step .ensures in
     let tells : start .args .dec .limit ≤ c .before .step .result + 1 = omega (arith, c .if1 .left) in
-    (omega (arith, lt), omega (arith, inv .1, r .1), goes (start .args .dec) _ _ _ (start .pre) lt refl refl (inv .2) (r .0) (r .1) tells)
+    (omega (arith, lt), omega (arith, inv .1, r .1), goes (start .args .dec) _ _ _ (start .pre) lt refl (inv .2) (r .0) (r .1) tells)
 
 sub-narrow : tie.Need-sub-narrow Inv-loop μ-loop
 sub-narrow c = rises (c .before .loop .inv .2)
@@ -78,7 +75,6 @@ singles-spec =
     sub-bound
     sub-low
     loop-holds
-    add-step
     shared-slice-read-step
     step-requires
     add-i

@@ -1,8 +1,10 @@
 -- The loop over two components of 19 numbers each: `Each`, and the definition's reads by `level`.
-use Prim.Native.Nat.{_+_, _*_, _-_}
+use Prim.Native.Nat.{ℕ, _+_, _*_, _-_}
 use native.Mathlib.Omega.{arith}
-use mathlib.Core.Path.{_≡_, refl}
-use lib.ListN.{length}
+use mathlib.Core.Path.{_≡_, refl, sym}
+use mathlib.Core.List.{List}
+use lib.ListN.{length, take}
+use lib.Seq.{take-take}
 use borrow.Author.Needs.{needs}
 use Rattle.vp8_records.proofs.Arrays.{length-mapped, every-of}
 use Rattle.vp8_records.specs.Shape.{Every, SizedMvContext}
@@ -13,12 +15,15 @@ use Rattle.vp8_records.specs.Layout.{flatMvContext, laidMvContext}
 use Rattle.vp8_fields.specs.Rows.{codedMv, rowOver}
 use Rattle.vp8_fields.proofs.InPlace.{level}
 use Rattle.bool_decoder.proofs.Made.{same, makes}
-use Rattle.vp8_fields.proofs.Shapes.{mv-own}
 use native.Mathlib.Nat.{zero-add}
 use Rattle.rfc6386.specs.Coded.{motion}
 use Rattle.rfc6386.specs.Call.{mvOver}
 use Rattle.vp8_fields.proofs.motion.parse_mv_prob_update.Statement.{statement}
 use Rattle.vp8_fields.proofs.motion.parse_mv_prob_update.Tie as tie
+
+-- a component takes no more of a list than it holds
+own : (ys : List ℕ) → laidMvContext ys ≡ laidMvContext (take 19 ys)
+own ys i = record { v = sym (take-take 19 19 ys (omega arith)) i }
 
 abbrev Inv-loop : tie.InvT-loop
 Inv-loop area out₀ next₀ table i₀ out next i =
@@ -81,7 +86,7 @@ returns c =
     let at-end = c .before in
     let start = at-end .before .before .before in
     let n = lengths start in
-    let rows-of = level flatMvContext laidMvContext SizedMvContext 19 codedMv mvUpdate (λ x h. h) mv-own in
+    let rows-of = level flatMvContext laidMvContext SizedMvContext 19 codedMv mvUpdate (λ x h. h) own in
     passed (c .past .ensures)
     (same (rows-of (λ v. record { v = v }) 2 0 (start .args .mv-probs .v) n (each-of start) (omega arith))
     (makes (λ v. record { v = v }) (end _ (at-end .before .loop .inv) n (at-end .loop-test .left))))
