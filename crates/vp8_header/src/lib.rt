@@ -370,20 +370,21 @@ fn kept(
 ) -> Parser
     ensures { λ r. ⌜ r ≡ keeping segmentation «mb_lf_adjust» (pick refresh (probsIn third) (probsOf old)) ⌝ }
 {
-    let mut parser = old;
-    parser.segmentation = segmentation;
-    parser.mb_lf_adjust = mb_lf_adjust;
+    let inter = third.inter;
+    let mut coeff_prob = old.coeff_prob;
+    let mut mv_prob = old.mv_prob;
+    let mut mode_probs = old.mode_probs;
     if refresh {
-        let coeff_prob = third.coeff_prob;
-        let inter = third.inter;
-        let mv_prob = inter.mv_prob;
-        let mode_probs = inter.mode_probs;
-        parser.coeff_prob = coeff_prob;
-        parser.mv_prob = mv_prob;
-        parser.mode_probs = mode_probs;
-        parser
-    } else {
-        parser
+        coeff_prob = third.coeff_prob;
+        mv_prob = inter.mv_prob;
+        mode_probs = inter.mode_probs;
+    }
+    Parser {
+        segmentation,
+        mb_lf_adjust,
+        coeff_prob,
+        mv_prob,
+        mode_probs,
     }
 }
 

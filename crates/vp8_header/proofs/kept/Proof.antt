@@ -3,7 +3,7 @@ use Rattle.vp8_header.proofs.kept.Statement.{statement}
 use Rattle.vp8_header.proofs.kept.Tie as tie
 
 returns : tie.Need-returns
-returns c = rw (c .before .before .before .before .if1 .taken)
+returns c = rw (c .before .before .before .if1 .taken)
 
 returns-2 : tie.Need-returns-2
 returns-2 c = rw (c .if1 .left)
