@@ -1,5 +1,6 @@
 -- After i turns the rows of the first i are put: the law is `Put` of `Runs`.
 use Prim.Native.Nat.{_-_}
+use native.Mathlib.Omega.{arith}
 use mathlib.Core.Path.{_≡_}
 use lib.ListN.{length}
 use borrow.Author.Needs.{needs}
@@ -40,14 +41,14 @@ loop-again : tie.Need-loop-again Inv-loop μ-loop
 loop-again c =
     let at-put = c .before .before in
     let at-test = at-put .before .before .before in
-    turn _ (at-test .before .loop .inv) (at-test .loop-test .taken) (lengths (at-test .before .before .before))
+    turn _ (at-test .before .loop .inv) (omega (arith, at-test .loop-test .taken)) (lengths (at-test .before .before .before))
     (at-put .put-context .kept .0) (at-put .put-context .ensures)
 
 same-length : tie.Need-same-length Inv-loop μ-loop
 same-length c = c .before .loop .inv .size
 
 returns : tie.Need-returns Inv-loop μ-loop
-returns c = end (c .before .loop .inv) (lengths (c .before .before .before)) (c .loop-test .left)
+returns c = end (c .before .loop .inv) (lengths (c .before .before .before)) (omega (arith, c .loop-test .left))
 
 pub put-motion-spec : {M : Type 1} → statement M
 put-motion-spec =
