@@ -26,6 +26,7 @@ use Rattle.rfc6386.specs.Call.{Asked, coeffsOver, probsOf, probsOver, apply, cl
 use Rattle.rfc6386.proofs.Runs.{length-over}
 use Rattle.rfc6386_history.specs.Kept.{kept}
 use Rattle.rfc6386_history.specs.Nested.{Both, both, nestBoth, SameEntries, Each₂, noNested, nestedOver, nestedApply, nestedFinish, nestedCall, nestedCalls}
+use Rattle.rfc6386_history.proofs.Writes.{sized-fresh}
 use Rattle.rfc6386_history.proofs.Step.{sized-call}
 use Rattle.rfc6386_history.proofs.Numbers.{kept-coeff}
 
@@ -115,6 +116,11 @@ calls-entries p s (x ∷ xs) = (
   subst (λ (r : Nested). Each₂ SameEntries (calls (called p x .parser) xs) (nestedCalls r xs))
       (ap (λ (b : Both). b .parser) (call-nest p s x)) (calls-entries (called p x .parser) (sized-call p x s) xs),
 )
+
+-- of a fresh parser, whose nested records are the default table laid out
+pub fresh-entries : (xs : List Asked) → Each₂ SameEntries (calls fresh xs) (nestedCalls (laidNested coeffDefault) xs)
+unfolding fresh freshCoeffs
+fresh-entries xs = calls-entries fresh sized-fresh xs
 
 -- a record that code can hold is of the right shape
 pub held-entries : (p : Parser) (vs : List Val) → Is Held.the-row p vs → (xs : List Asked)
