@@ -3,7 +3,6 @@ use bool_decoder::BoolDecoder;
 use bool_decoder::reads::read_byte;
 use bool_decoder::zeros::seek;
 use vp8_records::CoeffProbs;
-ghost use mathlib.Core.Path.{_≡_};
 ghost use Rattle.rfc6386.specs.Reads.{make};
 ghost use Rattle.rfc6386.specs.Coded.{coefficients};
 ghost use Rattle.rfc6386.specs.Call.{coeffsOver};

@@ -1,9 +1,9 @@
--- Where an entry of the probabilities stands. The rule of the coefficients' run is linear arithmetic. In parts of n numbers each, number m of
--- part i stands at i · n + m, by induction over the parts; once a level, that is the rule for nested records.
+-- Where an entry of the probabilities stands. What the rule of the coefficients' run says is linear arithmetic. In parts of n numbers each,
+-- number m of part i stands at i · n + m, by induction over the parts; once a level, that is the same rule for nested records.
 use Prim.Native.Nat.{ℕ, zero, suc, _+_, _*_, _/_, _%_, _<_}
 use native.Mathlib.Nat.{zero-mul, suc-mul}
 use native.Mathlib.Omega.{arith}
-use mathlib.Core.Path.{_≡_, refl, ap, sym, _∙_}
+use mathlib.Core.Path.{_≡_, ap, sym, _∙_}
 use mathlib.Core.List.{List, [], _∷_, _++_, append-nil}
 use lib.ListN.{length, getD, List·getD-append}
 use lib.Seq.{getD-append-add, take-all}
@@ -35,7 +35,7 @@ module _ {A : Type 0} (flat : A → List ℕ) (n : ℕ) (Good : A → Type 0) (s
       ∙ getD-append-add (flat y) (joined flat ys) (i * n + m) 0
       ∙ joined-at ys i m (g .1) (omega (arith, h)) l
 
--- the rule: an entry stands within the run, no two entries share a place, and each place is some entry's
+-- by the rule an entry stands within the run, and no two entries share a place
 pub record Ruled (i j k l : ℕ) : Type 0 where
   pub within : coeffIndex i j k l < 1056
   pub apart : (i′ j′ k′ l′ : ℕ) → Entry i′ j′ k′ l′ → coeffIndex i j k l ≡ coeffIndex i′ j′ k′ l′
@@ -52,6 +52,7 @@ ruled i j k l e = record {
   );
 }
 
+-- and each place is some entry's
 pub filled : (n : ℕ) → n < 1056 → Entry (n / 11 / 3 / 8) (n / 11 / 3 % 8) (n / 11 % 3) (n % 11)
     × (coeffIndex (n / 11 / 3 / 8) (n / 11 / 3 % 8) (n / 11 % 3) (n % 11) ≡ n)
 filled n h = (record { block = omega (arith, h); band = omega arith; context = omega arith; token = omega arith }, omega arith)

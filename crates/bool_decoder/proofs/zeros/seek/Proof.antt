@@ -1,5 +1,5 @@
 -- A turn reads one bool, and where it is 0 passes over those that the limit tells: the zeros so far are joined.
-use Prim.Native.Nat.{_+_, _-_, _≤_}
+use Prim.Native.Nat.{_-_, _≤_}
 use native.Mathlib.Omega.{arith}
 use mathlib.Core.Path.{_≡_}
 use borrow.Author.Needs.{needs}

@@ -1,6 +1,6 @@
 -- A turn passes over the zeros before the next flag that is set, and writes the number after it: `reached` and `written`; the definition's
 -- reads by `leaf`.
-use Prim.Native.Nat.{ℕ, _-_, _<_}
+use Prim.Native.Nat.{ℕ, _-_}
 use native.Mathlib.Nat.{zero-add}
 use native.Mathlib.Omega.{arith}
 use mathlib.Core.Path.{_≡_, sym, ap}
