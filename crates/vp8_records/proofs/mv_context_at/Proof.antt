@@ -1,4 +1,4 @@
--- The loop copies 19 numbers: `Copy`, at 19. A function has its own array length, so that `tokens_at` at 11 is another; the law is one.
+-- The loop copies 19 numbers: `Copy`, at 19.
 use Prim.Native.Nat.{_-_}
 use mathlib.Core.Path.{refl}
 use borrow.Author.Needs.{needs}
