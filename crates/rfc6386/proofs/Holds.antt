@@ -61,7 +61,7 @@ group-most n us (inl e) = rw e zero-le
 group-most n us (inr e) = omega (arith, e)
 
 -- what holds of a read and of the value in its place
-under : {A : Type 0} (P : A → Type 0) (b : Bool) (m : Rd A) (x : A) → Always P m → P x → Always P (when b m x)
+pub under : {A : Type 0} (P : A → Type 0) (b : Bool) (m : Rd A) (x : A) → Always P m → P x → Always P (when b m x)
 unfolding when
 under P true m x h e = h
 under P false m x h e = always-ret P x e

@@ -6,6 +6,7 @@ pub mod Counts
 pub mod Accepts
 pub mod Peek
 pub mod Holds
+pub mod Bounds
 pub mod Fills
 pub mod Covers
 pub mod Reach

@@ -1,10 +1,14 @@
--- What holds of every header, whatever the bytes: the decoder's numbers stay in their ranges, and a coded group has its length.
+-- What holds of every header, whatever the bytes: the decoder's numbers stay in their ranges, a coded group has its length, and a signed
+-- value the magnitude that its width leaves it.
 use Prim.Native.Nat.{ℕ, _≤_, _<_}
 use mathlib.Core.Logic.{_⊎_}
 use mathlib.Core.Path.{_≡_}
+use mathlib.Core.Option.{Option, none, some}
 use mathlib.Core.List.{List, []}
+use lib.IntN.{ℤ, natAbs}
 use lib.ListN.{length}
 use Rattle.vp8_records.specs.declared.Mode.{Mode}
+use Rattle.vp8_records.specs.Shape.{Every}
 use Rattle.rfc6386.specs.Decoder.{State, split, readBool, pick}
 use Rattle.rfc6386.specs.Reads.{Rd, ret, ask}
 use Rattle.rfc6386.specs.Coded.{Segments, mapped, Coded}
@@ -42,3 +46,19 @@ pub record Fits (md : Mode) (c : Coded) : Type 0 where
   pub luma : Group 4 (c .inter .luma)
   pub chroma : Group 3 (c .inter .chroma)
   pub motion : Group 38 (c .inter .motion)
+
+-- at most n in magnitude
+abbrev pub Within : ℕ → ℤ → Type 0
+Within n z = natAbs z ≤ n
+
+-- of the value, where there is one
+abbrev pub Perhaps : {A : Type 0} → (A → Type 0) → Option A → Type 0
+Perhaps P none = Unit {0}
+Perhaps P (some x) = P x
+
+-- a segment's quantizer has 7 bits and a sign, its filter level and a filter delta 6 (sections 9.3 and 9.4)
+pub record Bounded (c : Coded) : Type 0 where
+  pub quantizers : Every (Perhaps (Within 127)) (c .segments .quantizers)
+  pub levels : Every (Perhaps (Within 63)) (c .segments .levels)
+  pub frames : Every (Perhaps (Within 63)) (c .deltas .frames)
+  pub modes : Every (Perhaps (Within 63)) (c .deltas .modes)

@@ -83,28 +83,36 @@ forgets p q x h = go (chunk f) (opens f) (chunk-opens f) (sym (cutter-opens f) �
 cutter-resets : (md : Mode) (f : List ℕ) → cutter f ≡ resets (outcomeOf md f) (keyOf f)
 cutter-resets md f = cutter-opens f ∙ resets-opened md f
 
-sized-reset : (k : Chunk) → Sized (reset k)
-sized-reset k = sized-fresh
+-- what a reset has, and a clearing and a header's writes keep, a call keeps
+module _
+    (P : Parser → Type 0) (of-reset : (k : Chunk) → P (reset k)) (of-cleared : (p : Parser) → P p → P (cleared p))
+    (of-applied : (x : Asked) (p : Parser) → P p → P (apply (coded (x .mode) (keyOf (x .frame)) (x .frame)) p)) where
+  pub base-keeps : (key : Bool) (f : List ℕ) (p : Parser) → P p → P (baseOf key f p)
+  base-keeps true f p h = of-reset (keyed f)
+  base-keeps false f p h = h
 
-sized-base : (key : Bool) (f : List ℕ) (p : Parser) → Sized p → Sized (baseOf key f p)
-sized-base true f p s = sized-reset (keyed f)
-sized-base false f p s = s
+  left-keeps : (x : Asked) (o : Outcome) (p : Parser) → P p
+      → P (left o (baseOf (keyOf (x .frame)) (x .frame)) (coded (x .mode) (keyOf (x .frame)) (x .frame)) p)
+  left-keeps x (FrameTooLong n) p h = h
+  left-keeps x ChunkTooShort p h = h
+  left-keeps x (InvalidStartCode code) p h = h
+  left-keeps x (InvalidPartitionSize end n) p h = base-keeps (keyOf (x .frame)) (x .frame) p h
+  left-keeps x EmptyArea p h = base-keeps (keyOf (x .frame)) (x .frame) (cleared p) (of-cleared p h)
+  left-keeps x EndOfHeader p h = of-applied x _ (base-keeps (keyOf (x .frame)) (x .frame) p h)
+  left-keeps x Accepted p h = of-applied x _ (base-keeps (keyOf (x .frame)) (x .frame) p h)
 
-sized-left : (o : Outcome) (key : Bool) (f : List ℕ) (c : Coded) (p : Parser) → Sized p → Sized (left o (baseOf key f) c p)
-sized-left (FrameTooLong n) key f c p s = s
-sized-left ChunkTooShort key f c p s = s
-sized-left (InvalidStartCode code) key f c p s = s
-sized-left (InvalidPartitionSize end n) key f c p s = sized-base key f p s
-sized-left EmptyArea key f c p s = sized-base key f (cleared p) (sized-cleared p s)
-sized-left EndOfHeader key f c p s = sized-apply c (baseOf key f p) (sized-base key f p s)
-sized-left Accepted key f c p s = sized-apply c (baseOf key f p) (sized-base key f p s)
+  pub call-keeps : (p : Parser) (x : Asked) → P p → P (called p x .parser)
+  call-keeps p x h = rw (left-is (x .mode) p (x .frame)) (left-keeps x (outcomeOf (x .mode) (x .frame)) p h)
+
+of-coded : (x : Asked) (p : Parser) → Sized p → Sized (apply (coded (x .mode) (keyOf (x .frame)) (x .frame)) p)
+of-coded x = sized-apply (coded (x .mode) (keyOf (x .frame)) (x .frame))
 
 -- a call keeps the shape
 pub sized-call : (p : Parser) (x : Asked) → Sized p → Sized (called p x .parser)
-sized-call p x s =
-    let md = x .mode in
-    let f = x .frame in
-    rw (left-is md p f) (sized-left (outcomeOf md f) (keyOf f) f (coded md (keyOf f) f) p s)
+sized-call = call-keeps Sized (λ k. sized-fresh) sized-cleared of-coded
+
+sized-base : (key : Bool) (f : List ℕ) (p : Parser) → Sized p → Sized (baseOf key f p)
+sized-base = base-keeps Sized (λ k. sized-fresh) sized-cleared of-coded
 
 -- us, at most as many as the numbers of p, written over them give those of q
 record Moves (us : List (Option ℤ)) (p q : Parser) : Type 0 where

@@ -78,7 +78,8 @@ pub fn put_modes(out: &mut [u8], at: usize, modes: ModeProbs) -> usize
     text::bytes(out, to, &chroma)
 }
 
-fn put_segmentation(out: &mut [u8], at: usize, s: Segmentation) -> usize
+// Segmentation (section 9.3).
+pub fn put_segmentation(out: &mut [u8], at: usize, s: Segmentation) -> usize
     ensures { λ r. ⌜ text (now (out .exit)) r ≡ puts (text (now (out .entry)) at) (segmentationBytes s) ⌝ }
 {
     let flags = [
@@ -96,7 +97,8 @@ fn put_segmentation(out: &mut [u8], at: usize, s: Segmentation) -> usize
     text::bytes(out, to, &probs)
 }
 
-fn put_adjustments(out: &mut [u8], at: usize, a: MbLfAdjustments) -> usize
+// The filter's adjustments (section 9.4).
+pub fn put_adjustments(out: &mut [u8], at: usize, a: MbLfAdjustments) -> usize
     ensures { λ r. ⌜ text (now (out .exit)) r ≡ puts (text (now (out .entry)) at) (adjustmentBytes a) ⌝ }
 {
     let flags = [

@@ -4,6 +4,7 @@ use crate::answer::{Mode, COEFFS, MOTION};
 use crate::bare::Read;
 use crate::codec::vp8::probs::{COEFF_DEFAULT_PROBS, MV_DEFAULT_PROBS, NK_UV_MODE_PROBS, NK_Y_MODE_PROBS};
 use crate::engine::Engine;
+use crate::records::LONGEST;
 use crate::rng::Rng;
 use crate::spec::{Signed, Spec};
 use std::path::Path;
@@ -12,9 +13,6 @@ pub type Frame = Vec<u8>;
 
 /// The frames of one recording.
 pub type Stream = Vec<Frame>;
-
-/// The longest frame that is written.
-pub const LONGEST: usize = 65_536;
 
 /// The frames of all recordings of a folder; a frame that the dump would not take is left out.
 pub fn streams(folder: &Path) -> Result<Vec<Stream>, String> {

@@ -38,6 +38,7 @@ mod gen;
 mod ivf;
 mod list;
 mod look;
+mod records;
 mod reel;
 mod replay;
 mod rng;
@@ -49,6 +50,7 @@ mod tally;
 
 use answer::{Answer, Mode, COEFFS, MOTION, NUMBERS};
 use engine::Engine;
+use records::{length, number, take, word, Record, Records, FRESH, LOOK, STANDARD};
 use rng::Rng;
 use std::io::{BufRead, Read, Write};
 use std::path::PathBuf;
@@ -121,88 +123,6 @@ fn line(a: &Answer) -> String {
         }
     }
     format!("{out} st={kept}")
-}
-
-/// A frame record: a fresh parser, the mode from here on, a frame, one that is only looked at, or why there are no more.
-enum Record {
-    Fresh,
-    Mode(Mode),
-    Frame(Vec<u8>),
-    Look(Vec<u8>),
-    End(Option<&'static str>),
-}
-
-/// The words that stand in place of a length: a fresh parser, each mode from here on, and that the next frame is only looked at.
-const FRESH: u32 = 0xffff_ffff;
-const STANDARD: u32 = 0xffff_fffe;
-const RUST: u32 = 0xffff_fffd;
-const LOOK: u32 = 0xffff_fffc;
-
-fn word(mode: Mode) -> u32 {
-    match mode {
-        Mode::Rust => RUST,
-        Mode::Standard => STANDARD,
-    }
-}
-
-/// That many bytes; none if there are fewer.
-fn take(input: &mut impl Read, n: usize) -> Option<Vec<u8>> {
-    let mut bytes = vec![0; n];
-    input.read_exact(&mut bytes).ok().map(|_| bytes)
-}
-
-fn number(bytes: &[u8]) -> usize {
-    bytes.iter().rev().fold(0, |v, b| v * 256 + *b as usize)
-}
-
-/// The next length, or how the input ends before it.
-fn length(input: &mut impl BufRead) -> Result<usize, Option<&'static str>> {
-    if input.fill_buf().map_or(true, |b| b.is_empty()) {
-        return Err(None);
-    }
-    take(input, 4).map(|b| number(&b)).ok_or(Some("cut short"))
-}
-
-/// Frame records from standard input.
-struct Records {
-    input: std::io::StdinLock<'static>,
-    /// Whether the next frame is only looked at.
-    looks: bool,
-    /// The mode of the next frame. A fresh parser keeps it.
-    mode: Mode,
-}
-
-impl Records {
-    fn new() -> Records {
-        Records { input: std::io::stdin().lock(), looks: false, mode: Mode::Rust }
-    }
-
-    fn next(&mut self) -> Record {
-        let cut = Record::End(Some("cut short"));
-        loop {
-            let n = match length(&mut self.input) {
-                Err(None) if self.looks => return cut,
-                Err(end) => return Record::End(end),
-                Ok(n) => n,
-            };
-            match n as u32 {
-                FRESH => return Record::Fresh,
-                STANDARD => return self.turned(Mode::Standard),
-                RUST => return self.turned(Mode::Rust),
-                LOOK => self.looks = true,
-                _ if n > gen::LONGEST => return Record::End(Some("too large")),
-                _ => {
-                    let wrap = if std::mem::take(&mut self.looks) { Record::Look } else { Record::Frame };
-                    return take(&mut self.input, n).map_or(cut, wrap);
-                }
-            }
-        }
-    }
-
-    fn turned(&mut self, mode: Mode) -> Record {
-        self.mode = mode;
-        Record::Mode(mode)
-    }
 }
 
 fn dump() {

@@ -1,0 +1,34 @@
+-- Runs put into a buffer one after another, from its beginning on: each put lengthens what the buffer begins with, and a run as long as the
+-- buffer is what it holds.
+use Prim.Native.Nat.{ℕ, _+_, _-_, _≤_}
+use native.Mathlib.Omega.{arith}
+use mathlib.Core.Path.{_≡_, refl, ap, ap₂, sym, _∙_}
+use mathlib.Core.List.{List, [], _++_}
+use lib.ListN.{length, take, drop, length-append, length-drop}
+use lib.Seq.{paste, length-paste, take-at, take-length, take-all}
+
+pub record Begins (n : ℕ) (xs b : List ℕ) : Type 0 where
+  pub size : length b ≡ n
+  pub is : take (length xs) b ≡ xs
+
+pub begin : {n : ℕ} {b : List ℕ} → length b ≡ n → Begins n [] b
+begin h = record { size = h; is = refl }
+
+pub more : {n : ℕ} {xs b : List ℕ} (s : List ℕ) (at : ℕ) {c : List ℕ} → Begins n xs b → at ≡ length xs → at + length s ≤ n
+    → c ≡ paste b at s (length s) → Begins n (xs ++ s) c
+more {n} {xs} {b} s at {c} h e fits p =
+    let rest = drop (at + length s) b in
+    let is : c ≡ (xs ++ s) ++ rest =
+    p
+    ∙ ap₂ {C = List ℕ} (λ ys zs. (ys ++ zs) ++ rest) (ap (λ (k : ℕ). take k b) e ∙ h .is) (take-length s) in
+    record {
+      size = ap length p ∙ length-paste b at s (length s) (omega arith) (omega (arith, h .size)) ∙ h .size;
+      is = ap (λ (l : List ℕ). take (length (xs ++ s)) l) is ∙ take-at (xs ++ s) rest (length (xs ++ s)) refl;
+    }
+
+pub whole : {n : ℕ} {xs b : List ℕ} → Begins n xs b → length xs ≡ n → b ≡ xs
+whole {n} {xs} {b} h e = sym (take-all (length xs) b (omega (arith, h .size))) ∙ h .is
+
+-- a part that goes to the end
+pub tail : (at : ℕ) (b : List ℕ) → take (length b - at) (drop at b) ≡ drop at b
+tail at b = take-all (length b - at) (drop at b) (omega (arith, length-drop at b))

@@ -1,0 +1,26 @@
+-- A byte as a signed number.
+use Prim.Native.Nat.{ℕ, zero, suc, _-_, _≤_, _<_}
+use native.Mathlib.Omega.{arith}
+use mathlib.Core.Path.{_≡_, refl, ap, _∙_}
+use borrow.Author.Tests.{le-ltb}
+use lib.IntN.{ℤ, pos, negsuc, _-ℤ_}
+use mir.Syntax.{w8}
+use mir.Val.{SFits, toZ}
+use mir.Facts.{toZ-pos}
+
+pub low : (b : ℕ) → b < 128 → toZ w8 b ≡ pos b
+low b h = toZ-pos w8 h
+
+pub high : (b : ℕ) → 128 ≤ b → toZ w8 b ≡ negsuc (255 - b)
+high b h = rw (le-ltb b 128 h) (ap negsuc (omega arith))
+
+less : (m : ℕ) → negsuc 0 -ℤ pos m ≡ negsuc m
+less zero = refl
+less (suc m) = ap negsuc (omega arith)
+
+-- one less than minus m
+pub minus : (m : ℕ) → m < 128 → negsuc 0 -ℤ toZ w8 m ≡ negsuc m
+minus m h = rw (low m h) (less m)
+
+pub minus-fits : (m : ℕ) → m < 128 → SFits w8 (negsuc 0 -ℤ toZ w8 m)
+minus-fits m h = rw (minus m h) (record { sfits = h })
