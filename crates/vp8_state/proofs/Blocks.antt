@@ -1,4 +1,4 @@
--- A block that is taken is that of one record without fault, and every such record has one: from the laws of `Laid` and `Faultless`, by
+-- A block that is taken is that of one record without fault, and every such record has one: from the laws of `Laid` and `NoFault`, by
 -- cases on the tests.
 use Prim.Native.Nat.{ℕ, _+_}
 use native.Mathlib.Omega.{arith}
@@ -21,7 +21,7 @@ use Rattle.vp8_state.specs.declared.ReadAnswer.{ReadAnswer}
 use Rattle.vp8_state.specs.Block.{heading, recordBytes, block, agree, faultless, refusalOf, blockVerdict, writeVerdict}
 use Rattle.vp8_state.specs.Handed.{taken, Left, left, recordOf, readBlock, writeBlock, stateRead, stateWrite}
 use Rattle.vp8_state.proofs.Laid.{Typed, sound-typed, record-size, record-back, both, Bytes, bytes-back, sound-laid}
-use Rattle.vp8_state.proofs.Faultless.{sound-faultless, faultless-sound}
+use Rattle.vp8_state.proofs.NoFault.{sound-faultless, faultless-sound}
 
 -- by its number
 pub by-number : (v : Verdict) → refusalOf v ≡ 0 → v ≡ Taken

@@ -29,7 +29,8 @@ use Rattle.vp8_state.specs.declared.Verdict.the-variants.{Taken, OtherSi
 use Rattle.vp8_state.specs.declared.ReadAnswer.{ReadAnswer}
 use Rattle.vp8_state.specs.Block.{block, refusalOf, blockVerdict}
 use Rattle.vp8_state.specs.Handed.{taken, Left, left, recordOf, readBlock, writeBlock, Offer, asked, handed, stateParse, theCalls, callsAnswers, Exported, stop, own, other}
-use Rattle.vp8_state.proofs.Blocks.{block-taken, record-of, read-back, write-taken}
+use Rattle.vp8_state.proofs.Laid.{Bytes}
+use Rattle.vp8_state.proofs.Blocks.{by-number, is-block, taken-sound, block-taken, record-of, read-back, write-taken}
 
 -- over the block of a record without fault
 pub parse-block : (p : Parser) (x : Offer) → Sound p → stateParse (block p) x ≡ handed p (asked x)
@@ -47,6 +48,29 @@ module _ (b : List ℕ) (x : Offer) (h : blockVerdict b ≡ Taken → ⊥) where
       go OtherSize g = refl
       go OtherHeading g = refl
       go Fault g = refl
+
+-- an exported call out of its steps: the block read, the call, the block written
+module _ (b : List ℕ) (x : Offer) (a : ReadAnswer) (read : a ≡ readBlock b) where
+  verdict-is : a .verdict ≡ blockVerdict b
+  unfolding readBlock
+  verdict-is = ap (λ (y : ReadAnswer). y .verdict) read
+
+  pub steps-refused : (r : ℕ) → r ≡ refusalOf (a .verdict) → (r ≡ 0 → ⊥) → left r b ≡ stateParse b x
+  steps-refused r e h =
+      let n : r ≡ refusalOf (blockVerdict b) = e ∙ ap refusalOf verdict-is in
+      ap (λ (i : ℕ). left i b) n ∙ sym (parse-refused b x (λ z. h (n ∙ ap refusalOf z)))
+
+  pub steps-called : Bytes b → refusalOf (a .verdict) ≡ 0 → (y : Parsed) → y ≡ called (a .parser) (asked x) → (v : Verdict) (c : List ℕ)
+      → left v c ≡ writeBlock (y .parser) b → (r : ℕ) → r ≡ numberOf (y .outcome) → left r c ≡ stateParse b x
+  unfolding readBlock stateParse
+  steps-called bytes z y e v c w r n =
+      let h : blockVerdict b ≡ Taken = sym verdict-is ∙ by-number (a .verdict) z in
+      let p : a .parser ≡ recordOf b = ap (λ (q : ReadAnswer). q .parser) read ∙ ap (λ (u : Verdict). taken u (recordOf b) fresh) h in
+      let k : y ≡ called (recordOf b) (asked x) = e ∙ ap (λ (q : Parser). called q (asked x)) p in
+      let s : Sound (y .parser) = rw k (sound-call (recordOf b) (asked x) (taken-sound b bytes h)) in
+      let d : c ≡ block (y .parser) = ap (λ (l : Left Verdict). l .buffer) (w ∙ write-taken (y .parser) s b (is-block b h .size)) in
+      rw h
+      (ap₂ {C = Left ℕ} (λ i l. left i l) n d ∙ ap (λ (q : Parsed). left (numberOf (q .outcome)) (block (q .parser))) k)
 
 -- a refusal of the block is 13 or more, a call's is less
 no-call : (v : Verdict) → (v ≡ Taken → ⊥) → ltb (refusalOf v) 13 ≡ false
@@ -76,7 +100,7 @@ exported-is p s e (own {b} {c} {x = x} {xs} {r} {rs} h n) =
     let ih = exported-is (a .parser) (sound-call p (asked x) s) (ap (λ (l : Left ℕ). l .buffer) k) n in
     let t : ltb r 13 ≡ true = ap (λ (i : ℕ). ltb i 13) m ∙ a-call (a .outcome) in
     (rw t (ih .0), rw t (ap₂ {C = List ℕ} (λ i is. i ∷ is) m (ih .1)))
-exported-is p s e (other {o = o} {x = x} {r = r} g h n) =
+exported-is p s e (other o {x = x} {r = r} g h n) =
     let ih = exported-is p s e n in
     let t : ltb r 13 ≡ false = ap (λ (l : Left ℕ). ltb (l .answer) 13) (h ∙ parse-refused o x g) ∙ no-call (blockVerdict o) g in
     (rw t (ih .0), rw t (ih .1))
@@ -92,7 +116,7 @@ exported-none {b} h (own {c = c} {x = x} {r = r} g n) =
     let t : ltb r 13 ≡ false = ap (λ (l : Left ℕ). ltb (l .answer) 13) k ∙ no-call (blockVerdict b) h in
     let ih = exported-none (λ z. h (ap blockVerdict (sym e) ∙ z)) n in
     (ih .0 ∙ e, rw t (ih .1))
-exported-none h (other {o = o} {x = x} {r = r} g k n) =
+exported-none h (other o {x = x} {r = r} g k n) =
     let t : ltb r 13 ≡ false = ap (λ (l : Left ℕ). ltb (l .answer) 13) (k ∙ parse-refused o x g) ∙ no-call (blockVerdict o) g in
     let ih = exported-none h n in
     (ih .0, rw t (ih .1))
@@ -120,7 +144,7 @@ pub exported-then : {b c d : List ℕ} {xs ys : List Offer} {rs ss : List ℕ} �
     → Exported b (xs ++ ys) (rs ++ ss) d
 exported-then stop n = n
 exported-then (own h m) n = own h (exported-then m n)
-exported-then (other g h m) n = other g h (exported-then m n)
+exported-then (other o g h m) n = other o g h (exported-then m n)
 
 after-then : (p : Parser) (xs ys : List Asked) → after p (xs ++ ys) ≡ after (after p xs) ys
 unfolding after

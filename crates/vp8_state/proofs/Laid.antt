@@ -2,7 +2,7 @@
 -- of which a record's bytes are made, each a part of them.
 use Prim.Native.Nat.{ℕ, zero, suc, _+_, _≤_, _<_}
 use native.Mathlib.Omega.{arith}
-use native.Mathlib.Nat.{le-of-suc-le-suc, not-suc-le-zero}
+use native.Mathlib.Nat.{add-zero, le-of-suc-le-suc, not-suc-le-zero}
 use mathlib.Core.Path.{_≡_, refl, ap, ap₂, sym, subst, _∙_}
 use mathlib.Core.Bool.{Bool, true, false, _&&_, false≢true}
 use mathlib.Core.List.{List, [], _∷_, _++_, map, append-assoc, append-nil}
@@ -277,23 +277,23 @@ module _ (b : List ℕ) (size : length b ≡ 1126) where
         luma = part-size 1119 4 (lit≤ tt);
         chroma = part-size 1123 3 (lit≤ tt);
       };
-      quantizers = within 125 4 (lit≤ tt) (lit≤ tt) (same refl refl refl refl);
-      levels = within 61 8 (lit≤ tt) (lit≤ tt) (same refl refl refl refl);
-      frames = within 61 17 (lit≤ tt) (lit≤ tt) (same refl refl refl refl);
-      modes = within 61 21 (lit≤ tt) (lit≤ tt) (same refl refl refl refl);
+      quantizers = within 125 4 (lit≤ tt) (lit≤ tt) (same 4 refl refl refl refl);
+      levels = within 61 8 (lit≤ tt) (lit≤ tt) (same 8 refl refl refl refl);
+      frames = within 61 17 (lit≤ tt) (lit≤ tt) (same 17 refl refl refl refl);
+      modes = within 61 21 (lit≤ tt) (lit≤ tt) (same 21 refl refl refl refl);
     }
       where
         signed-part : (at : ℕ) → at + 4 ≤ 1126 → length (signedAt at b) ≡ 4
         signed-part at h = length-map (part at 4 b) (toZ w8) ∙ part-size at 4 h
 
         -- four kinds that are all k
-        same : {k at : ℕ} → getD kinds at 0 ≡ k → getD kinds (at + 1) 0 ≡ k → getD kinds (at + 2) 0 ≡ k → getD kinds (at + 3) 0 ≡ k
+        same : (at : ℕ) {k : ℕ} → getD kinds at 0 ≡ k → getD kinds (at + 1) 0 ≡ k → getD kinds (at + 2) 0 ≡ k → getD kinds (at + 3) 0 ≡ k
             → (i : ℕ) → i < 4 → getD kinds (at + i) 0 ≡ k
-        same a b c d zero h = a
-        same a b c d (suc zero) h = b
-        same a b c d (suc (suc zero)) h = c
-        same a b c d (suc (suc (suc zero))) h = d
-        same a b c d (suc (suc (suc (suc i)))) h = absurd (omega (arith, h))
+        same at a b c d zero h = rw add-zero a
+        same at a b c d (suc zero) h = b
+        same at a b c d (suc (suc zero)) h = c
+        same at a b c d (suc (suc (suc zero))) h = d
+        same at a b c d (suc (suc (suc (suc i)))) h = absurd (omega (arith, h))
 
         mapped : (n : ℕ) (xs : List ℕ) → Every (λ x. Within n (toZ w8 x)) xs → Every (Within n) (map (toZ w8) xs)
         mapped n [] g = tt

@@ -84,7 +84,7 @@ pub data Exported : List ℕ → List Offer → List ℕ → List ℕ → Type 0
   stop : {b : List ℕ} → Exported b [] [] b
   own : {b c d : List ℕ} {x : Offer} {xs : List Offer} {r : ℕ} {rs : List ℕ} → left r c ≡ stateParse b x → Exported c xs rs d
       → Exported b (x ∷ xs) (r ∷ rs) d
-  other : {b o c d : List ℕ} {x : Offer} {xs : List Offer} {r : ℕ} {rs : List ℕ} → (blockVerdict o ≡ Taken → ⊥)
+  other : {b c d : List ℕ} (o : List ℕ) {x : Offer} {xs : List Offer} {r : ℕ} {rs : List ℕ} → (blockVerdict o ≡ Taken → ⊥)
       → left r c ≡ stateParse o x → Exported b xs rs d → Exported b (x ∷ xs) (r ∷ rs) d
 
 -- a parse that is refused by 13 to 15 is no call: the calls among these, and their answers

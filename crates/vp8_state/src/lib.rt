@@ -16,8 +16,8 @@ ghost use lib.ListN.{length, drop};
 ghost use lib.Seq.{paste};
 ghost use mir.Val.{toZ};
 ghost use mir.Syntax.{w8};
-ghost use Rattle.vp8_records.specs.Layout.{laidCoeffs, laidMv};
-ghost use Rattle.vp8_flat.specs.Bytes.{segmentationBytes, adjustmentBytes};
+ghost use Rattle.vp8_records.specs.Layout.{flatCoeffs, flatMv, laidCoeffs, laidMv};
+ghost use Rattle.vp8_flat.specs.Bytes.{segmentationBytes, adjustmentBytes, flatModes};
 ghost use Rattle.vp8_state.specs.Block.{heading, agree, allows, kinds, faultless, refusalOf, blockVerdict};
 ghost use Rattle.vp8_state.specs.Laid.{part, segmentationOf, adjustmentsOf, modesOf, parserOf};
 ghost use Rattle.vp8_state.specs.Handed.{left, readBlock, writeBlock, stateRead, stateWrite, stateParse};
@@ -197,6 +197,28 @@ fn front(s: Segmentation, a: MbLfAdjustments) -> [u8; 25]
     out
 }
 
+// Heading and sections, one after another.
+fn put_sections(
+    block: &mut [u8],
+    first: [u8; 25],
+    coeffs: CoeffProbs,
+    mv: MvProbs,
+    probs: ModeProbs,
+)
+    requires { ⌜ length (now block) ≡ 1148 ⌝ }
+    ensures { λ _. ⌜ now (block .exit) ≡ heading ++ first ++ flatCoeffs coeffs ++ flatMv mv ++ flatModes probs ⌝ }
+{
+    let table = HEADING;
+    let run = coeffs.v;
+    let motion = vp8_flat::motion(mv);
+    let modes = vp8_flat::modes(probs);
+    put(block, 0, &table);
+    put(block, 22, &first);
+    put(block, 47, &run);
+    put(block, 1103, &motion);
+    put(block, 1141, &modes);
+}
+
 // Writes the record into a block of the caller's; where it is refused, the block stays as it is.
 pub fn write_block(parser: Parser, block: &mut [u8]) -> Verdict
     ensures { λ r. ⌜ left r (now (block .exit)) ≡ writeBlock parser (now (block .entry)) ⌝ }
@@ -210,15 +232,10 @@ pub fn write_block(parser: Parser, block: &mut [u8]) -> Verdict
     if !faultless(&first, 0) {
         return Verdict::Fault;
     }
-    let table = HEADING;
-    let coeffs = parser.coeff_prob.v;
-    let motion = vp8_flat::motion(parser.mv_prob);
-    let modes = vp8_flat::modes(parser.mode_probs);
-    put(block, 0, &table);
-    put(block, 22, &first);
-    put(block, 47, &coeffs);
-    put(block, 1103, &motion);
-    put(block, 1141, &modes);
+    let coeffs = parser.coeff_prob;
+    let motion = parser.mv_prob;
+    let modes = parser.mode_probs;
+    put_sections(block, first, coeffs, motion, modes);
     Verdict::Taken
 }
 
@@ -412,7 +429,8 @@ pub extern "C" fn vp8_state_parse(mode: u32, block: &mut [u8], frame: &[u8]) -> 
     ensures { λ r. ⌜ left r (now (block .exit)) ≡ stateParse (now (block .entry)) (record { mode = mode; frame = now (frame .entry) }) ⌝ }
 {
     let read = read_block(&block[..]);
-    let refusal = read.verdict.number();
+    let verdict = read.verdict;
+    let refusal = verdict.number();
     if refusal != 0 {
         return refusal;
     }

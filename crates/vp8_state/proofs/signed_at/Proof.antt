@@ -6,7 +6,7 @@ use lib.ListN.{length}
 use mir.Syntax.{w8}
 use mir.Val.{SFits, toZ}
 use mir.Facts.{toZ-ofZ}
-use Rattle.vp8_state.proofs.Back.{spread}
+use Rattle.vp8_state.proofs.Signs.{spread}
 use borrow.Author.Needs.{needs}
 use Rattle.vp8_state.proofs.signed_at.Statement.{statement}
 use Rattle.vp8_state.proofs.signed_at.Tie as tie

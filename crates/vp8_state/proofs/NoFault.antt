@@ -52,6 +52,41 @@ flag : (b : Bool) → Passes 1 (bitOf b)
 flag true = refl
 flag false = refl
 
+-- four signed bytes
+signed : (n : ℕ) → suc (suc n) < 128 → (ks : List ℕ) (zs : List ℤ) → length zs ≡ 4 → Every (Within (suc (suc n))) zs → (rest : List ℕ)
+    → agree allows ks rest ≡ true → agree allows (replicate 4 (suc (suc n)) ++ ks) (map (ofZ w8) zs ++ rest) ≡ true
+signed n l ks zs m h rest = together (suc (suc n)) 4 ks (map (ofZ w8) zs) rest (signed-size zs m) (into n l zs h)
+
+abbrev four : Parser → List ℕ
+four p =
+    bitOf (p .segmentation .«segmentation_enabled»)
+    ∷ bitOf (p .segmentation .«update_mb_segmentation_map»)
+    ∷ bitOf (p .segmentation .«update_segment_feature_data»)
+    ∷ bitOf (p .segmentation .«segment_feature_mode»)
+    ∷ []
+
+abbrev two : Parser → List ℕ
+two p = bitOf (p .«mb_lf_adjust» .«loop_filter_adj_enable») ∷ bitOf (p .«mb_lf_adjust» .«mode_ref_lf_delta_update») ∷ []
+
+-- the kinds after each group
+abbrev k6 : List ℕ
+k6 = replicate 4 63 ++ []
+
+abbrev k5 : List ℕ
+k5 = replicate 4 63 ++ k6
+
+abbrev k4 : List ℕ
+k4 = replicate 2 1 ++ k5
+
+abbrev k3 : List ℕ
+k3 = replicate 3 0 ++ k4
+
+abbrev k2 : List ℕ
+k2 = replicate 4 63 ++ k3
+
+abbrev k1 : List ℕ
+k1 = replicate 4 127 ++ k2
+
 pub sound-faultless : (p : Parser) → Sound p → faultless (recordBytes p) ≡ true
 unfolding kinds joined
 sound-faultless p g =
@@ -59,20 +94,16 @@ sound-faultless p g =
     let q = p .segmentation in
     let a = p .«mb_lf_adjust» in
     subst (λ (l : List ℕ). agree allows kinds l ≡ true) (sym (in-pieces p))
-    (together 1 4 _ _ _ refl
-    (flag (q .«segmentation_enabled»), (flag (q .«update_mb_segmentation_map»), (flag (q .«update_segment_feature_data»), (flag (q .«segment_feature_mode»), tt))))
-    (signed 127 125 (lit< tt) refl (q .«quantizer_update_value») (s .quantizers) (g .quantizers)
-    (signed 63 61 (lit< tt) refl (q .«lf_update_value») (s .levels) (g .levels)
-    (together 0 3 _ (q .«segment_prob») _ (s .probs) (free (q .«segment_prob»))
-    (together 1 2 _ _ _ refl (flag (a .«loop_filter_adj_enable»), (flag (a .«mode_ref_lf_delta_update»), tt))
-    (signed 63 61 (lit< tt) refl (a .«ref_frame_delta») (s .frames) (g .frames)
-    (signed 63 61 (lit< tt) refl (a .«mb_mode_delta») (s .modes) (g .modes) (enough _))))))))
-  where
-    signed : (k n : ℕ) → suc (suc n) < 128 → k ≡ suc (suc n) → (zs : List ℤ) → length zs ≡ 4 → Every (Within k) zs
-        → {ks rest : List ℕ} → agree allows ks rest ≡ true → agree allows (replicate 4 k ++ ks) (map (ofZ w8) zs ++ rest) ≡ true
-    signed k n l e zs m h {ks} {rest} r =
-        subst (λ (x : ℕ). agree allows (replicate 4 x ++ ks) (map (ofZ w8) zs ++ rest) ≡ true) (sym e)
-        (together (suc (suc n)) 4 ks (map (ofZ w8) zs) rest (signed-size zs m) (into n l zs (subst (λ (x : ℕ). Every (Within x) zs) e h)) r)
+    (together 1 4 k1 (four p) _ refl (
+      flag (q .«segmentation_enabled»),
+      (flag (q .«update_mb_segmentation_map»), (flag (q .«update_segment_feature_data»), (flag (q .«segment_feature_mode»), tt))),
+    )
+    (signed 125 (lit< tt) k2 (q .«quantizer_update_value») (s .quantizers) (g .quantizers) _
+    (signed 61 (lit< tt) k3 (q .«lf_update_value») (s .levels) (g .levels) _
+    (together 0 3 k4 (q .«segment_prob») _ (s .probs) (free (q .«segment_prob»))
+    (together 1 2 k5 (two p) _ refl (flag (a .«loop_filter_adj_enable»), (flag (a .«mode_ref_lf_delta_update»), tt))
+    (signed 61 (lit< tt) k6 (a .«ref_frame_delta») (s .frames) (g .frames) _
+    (signed 61 (lit< tt) [] (a .«mb_mode_delta») (s .modes) (g .modes) _ (enough _))))))))
 
 -- so of a record of the machine the test of its bytes tells
 pub faultless-sound : (p : Parser) → Typed p → faultless (recordBytes p) ≡ true → Sound p
