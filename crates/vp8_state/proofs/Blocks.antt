@@ -1,26 +1,33 @@
 -- A block that is taken is that of one record without fault, and every such record has one: from the laws of `Laid` and `NoFault`, by
 -- cases on the tests.
-use Prim.Native.Nat.{ℕ, _+_}
+use Prim.Native.Nat.{ℕ, zero, suc, _+_, _*_, _<_}
 use native.Mathlib.Omega.{arith}
 use mathlib.Core.Path.{_≡_, refl, ap, ap₂, sym, _∙_}
 use mathlib.Core.Bool.{Bool, true, false, _&&_, false≢true}
-use mathlib.Core.List.{List, [], _∷_, _++_}
+use mathlib.Core.List.{List, [], _∷_, _++_, map, append-nil}
 use borrow.Author.Tests.{eqb-true, eq-eqb}
-use lib.Dec.{eqb, lit≤}
-use lib.ListN.{length, getD, take, drop, length-append, length-drop, take-append-drop}
+use lib.Dec.{eqb, lit<}
+use lib.ListN.{length, getD, take, drop, length-append, length-drop, length-map, take-append-drop}
 use lib.Seq.{getD-drop}
 use mir.Syntax.{w8}
 use mir.Val.{Fits}
 use Rattle.vp8_records.specs.declared.Parser.{Parser}
-use Rattle.vp8_records.specs.Start.{fresh}
+use Rattle.vp8_records.specs.Layout.{joined}
+use Rattle.vp8_records.specs.Shape.{Sized}
+use Rattle.vp8_records.proofs.Parts.{mv}
+use Rattle.rfc6386.specs.Bytes.{le2}
+use Rattle.rfc6386.specs.Frame.{sum}
 use Rattle.rfc6386.specs.Decoder.{pick}
 use Rattle.rfc6386_history.specs.Sound.{Sound}
+use Rattle.vp8_flat.specs.Bytes.{segmentationBytes, adjustmentBytes, flatModes, keptBytes}
+use Rattle.vp8_flat.proofs.Whole.{kept-is}
 use Rattle.vp8_state.specs.declared.Verdict.{Verdict}
 use Rattle.vp8_state.specs.declared.Verdict.the-variants.{Taken, OtherSize, OtherHeading, Fault}
 use Rattle.vp8_state.specs.declared.ReadAnswer.{ReadAnswer}
-use Rattle.vp8_state.specs.Block.{heading, recordBytes, block, agree, faultless, refusalOf, blockVerdict, writeVerdict}
+use Rattle.vp8_state.specs.Block.{heading, sections, recordBytes, block, agree, faultless, refusalOf, blockVerdict, writeVerdict}
+use Rattle.vp8_state.specs.Laid.{part}
 use Rattle.vp8_state.specs.Handed.{taken, Left, left, recordOf, readBlock, writeBlock, stateRead, stateWrite}
-use Rattle.vp8_state.proofs.Laid.{Typed, sound-typed, record-size, record-back, both, Bytes, bytes-back, sound-laid}
+use Rattle.vp8_state.proofs.Laid.{Typed, sound-typed, part-is, record-size, record-back, both, Bytes, bytes-back, sound-laid}
 use Rattle.vp8_state.proofs.NoFault.{sound-faultless, faultless-sound}
 
 -- by its number
@@ -112,6 +119,37 @@ module _ (p : Parser) (s : Sound p) where
   pub write-taken : (b : List ℕ) → length b ≡ 1148 → writeBlock p b ≡ left Taken (block p)
   unfolding writeBlock writeVerdict
   write-taken b n = rw (eq-eqb (length b) 1148 n, sound-faultless p s)
+
+-- each section lies where the heading says: offset and length of section i stand in the block at 2 + 4i
+pub section-at : (p : Parser) → Sized p → (i : ℕ) → i < 5
+    → part (le2 (block p) (2 + 4 * i)) (le2 (block p) (4 + 4 * i)) (block p) ≡ getD (sections p) i []
+unfolding block recordBytes heading joined sum
+section-at p s i h = go i h
+  where
+    first : length (segmentationBytes (p .segmentation)) ≡ 15
+    first = simp (length-append, length-map) (omega (arith, s .quantizers, s .levels, s .probs))
+
+    second : length (adjustmentBytes (p .«mb_lf_adjust»)) ≡ 10
+    second = simp (length-append, length-map) (omega (arith, s .frames, s .modes))
+
+    last : length (flatModes (p .«mode_probs»)) ≡ 7
+    last = length-append (p .«mode_probs» .«intra_16x16_prob») (p .«mode_probs» .«intra_chroma_prob») ∙ omega (arith, s .luma, s .chroma)
+
+    all-sizes : map length (heading ∷ sections p) ≡ 22 ∷ 15 ∷ 10 ∷ 1056 ∷ 38 ∷ 7 ∷ []
+    all-sizes = λ k. 22 ∷ first k ∷ second k ∷ s .coeffs k ∷ mv .size (p .«mv_prob») (s .motion) k ∷ last k ∷ []
+
+    go : (j : ℕ) → j < 5 → part (le2 (block p) (2 + 4 * j)) (le2 (block p) (4 + 4 * j)) (block p) ≡ getD (sections p) j []
+    go zero l = part-is 1 (heading ∷ sections p) _ all-sizes (lit< tt)
+    go (suc zero) l = part-is 2 (heading ∷ sections p) _ all-sizes (lit< tt)
+    go (suc (suc zero)) l = part-is 3 (heading ∷ sections p) _ all-sizes (lit< tt)
+    go (suc (suc (suc zero))) l = part-is 4 (heading ∷ sections p) _ all-sizes (lit< tt)
+    go (suc (suc (suc (suc zero)))) l = part-is 5 (heading ∷ sections p) _ all-sizes (lit< tt)
+    go (suc (suc (suc (suc (suc j))))) l = absurd (omega (arith, l))
+
+-- the flat record is the kept numbers, a byte each
+pub kept-bytes : (p : Parser) → recordBytes p ≡ keptBytes p
+unfolding recordBytes joined
+kept-bytes p = rw append-nil (kept-is p)
 
 -- two records without fault that have one block are the same
 pub one-record : (p q : Parser) → Sound p → Sound q → block p ≡ block q → p ≡ q

@@ -108,7 +108,7 @@ unfolding sum
 record-size p s = ap length (in-pieces p) ∙ length-all (pieces p) ∙ ap sum (sizes-are p s)
 
 -- group i is the part that the lengths before it and its own tell
-part-is : (i : ℕ) (gs : List (List ℕ)) (ns : List ℕ) → map length gs ≡ ns → i < length ns
+pub part-is : (i : ℕ) (gs : List (List ℕ)) (ns : List ℕ) → map length gs ≡ ns → i < length ns
     → part (sum (take i ns)) (getD ns i 0) (all gs) ≡ getD gs i []
 unfolding joined sum
 part-is i [] [] e h = absurd (not-suc-le-zero h)

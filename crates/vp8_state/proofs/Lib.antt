@@ -8,3 +8,4 @@ pub mod NoFault
 pub mod Blocks
 pub mod Stores
 pub mod Handed
+pub mod Held
