@@ -50,29 +50,7 @@ export SILLBROOK_RUST_SRC SILLBROOK_STATICLIB
 
 # The Rust is a crate of its own, optimised, as one unit (Cargo.toml: codegen-units = 1), and the host is linked with both. Elsewhere than
 # on x86-64 it is built for x86-64, with the kit's linker and C library.
-words=() rustc=rustc profile=release runs=(-U LD_LIBRARY_PATH)
-if [ "$machine" != x86_64 ] || [ "${SILLBROOK_CROSS:-}" = yes ]; then
-    triple=x86_64-unknown-linux-gnu
-    kit=$(dirname "$(dirname "$(rt doc)")")/on/$machine/toolchain
-    [ ! -x "$tools/bin/rustc" ] || rustc=$tools/bin/rustc
-    [ -d "$("$rustc" --print target-libdir --target $triple)" ] || stop "$rustc has no library for $triple: call bench/fetch"
-    mkdir -p "$made/lib" "$made/system/lib64"
-    for lib in c.so.6 m.so.6 gcc_s.so.1; do ln -sfn "$kit/lib/lib$lib" "$made/lib/lib${lib%%.*}.so"; done
-    ln -sfn "$kit/lib/libc_nonshared.a" "$made/lib/libc_nonshared.a"
-    # Their contents are in the C library, and rustc names them all the same.
-    for lib in dl rt util pthread; do "$kit/bin/llvm-ar" crs "$made/lib/lib$lib.a"; done
-    ln -sfn "$kit/lib/ld-linux-x86-64.so.2" "$made/system/lib64/ld-linux-x86-64.so.2"
-    links=(-pie -dynamic-linker /lib64/ld-linux-x86-64.so.2 "$kit/lib/Scrt1.o" "$kit/lib/crti.o" "$kit/lib/crtbeginS.o"
-        -L "$made/lib" -lc_nonshared "$kit/lib/crtendS.o" "$kit/lib/crtn.o")
-    flags=(-C "linker=$kit/bin/ld.lld" -C linker-flavor=ld.lld)
-    for link in "${links[@]}"; do flags+=(-C "link-arg=$link"); done
-    CARGO_ENCODED_RUSTFLAGS=$(printf '%s\x1f' "${flags[@]}")
-    export CARGO_ENCODED_RUSTFLAGS=${CARGO_ENCODED_RUSTFLAGS%?}
-    export RUSTC=$rustc
-    words=(--target $triple)
-    profile=$triple/release
-    runs=(-L "$made/system" -E "LD_LIBRARY_PATH=$kit/lib")
-fi
+. "$bench/link.sh"
 cargo build --release --offline --quiet "${words[@]}" --manifest-path "$here/Cargo.toml" --target-dir "$made/cargo" || exit 1
 host=$made/cargo/$profile/host
 emulated() { "$tools/bin/qemu-x86_64" -cpu max "${runs[@]}" "$@"; }

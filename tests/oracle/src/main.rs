@@ -371,7 +371,7 @@ fn records(files: &[String]) {
     for recording in all.unwrap_or_else(|why| stop(2, &why)) {
         let mut out = FRESH.to_le_bytes().to_vec();
         for f in recording.frames {
-            if f.len() > gen::LONGEST {
+            if f.len() > records::LONGEST {
                 eprintln!("{}: a frame of {} bytes is left out", recording.path.display(), f.len());
                 skipped += 1;
                 continue;
@@ -380,7 +380,7 @@ fn records(files: &[String]) {
         }
         emit(&out);
     }
-    eprintln!("recordings: {skipped} frames above {} bytes skipped", gen::LONGEST);
+    eprintln!("recordings: {skipped} frames above {} bytes skipped", records::LONGEST);
 }
 
 /// The fixed list of frames, some of which come from the recordings.

@@ -36,7 +36,7 @@ allows-requires c κs = search needs
 
 returns : tie.Need-returns Inv-loop μ-loop
 unfolding kinds
-returns c = fails (c .before .before .before .loop-test .taken) (let h = c .before .before .before .before .before .before .pre in omega arith) (c .before .before .before .before .loop .inv) (sym (c .before .allows .ensures) ∙ not-true _ (c .if1 .taken))
+returns c = fails (omega (arith, c .before .before .before .loop-test .taken)) (let h = c .before .before .before .before .before .before .pre in omega arith) (c .before .before .before .before .loop .inv) (sym (c .before .allows .ensures) ∙ not-true _ (c .if1 .taken))
 
 add-i : tie.Need-add-i Inv-loop μ-loop
 add-i c = search needs
@@ -46,11 +46,11 @@ loop-less c = search needs
 
 loop-again : tie.Need-loop-again Inv-loop μ-loop
 unfolding kinds
-loop-again c = turn (c .before .before .before .loop-test .taken) (let h = c .before .before .before .before .before .before .pre in omega arith) (c .before .before .before .before .loop .inv) (sym (c .before .allows .ensures) ∙ not-false _ (c .if1 .left)) (omega arith)
+loop-again c = turn (omega (arith, c .before .before .before .loop-test .taken)) (let h = c .before .before .before .before .before .before .pre in omega arith) (c .before .before .before .before .loop .inv) (sym (c .before .allows .ensures) ∙ not-false _ (c .if1 .left)) (omega arith)
 
 returns-2 : tie.Need-returns-2 Inv-loop μ-loop
 unfolding kinds
-returns-2 c = ends (c .loop-test .left) (c .before .loop .inv)
+returns-2 c = ends (omega (arith, c .loop-test .left)) (c .before .loop .inv)
 
 pub faultless-spec : {M : Type 1} → statement M
 faultless-spec =

@@ -29,7 +29,7 @@ shared-slice-read-if1 c = search needs
 
 returns : tie.Need-returns Inv-loop μ-loop
 unfolding heading
-returns c = fails (c .before .before .loop-test .taken) (let h = c .before .before .before .before .pre in omega arith) (c .before .before .before .loop .inv) (ne-eqb _ _ (c .if1 .taken))
+returns c = fails (omega (arith, c .before .before .loop-test .taken)) (let h = c .before .before .before .before .pre in omega arith) (c .before .before .before .loop .inv) (ne-eqb _ _ (c .if1 .taken))
 
 add-i : tie.Need-add-i Inv-loop μ-loop
 add-i c = search needs
@@ -39,11 +39,11 @@ loop-less c = search needs
 
 loop-again : tie.Need-loop-again Inv-loop μ-loop
 unfolding heading
-loop-again c = turn (c .before .before .loop-test .taken) (let h = c .before .before .before .before .pre in omega arith) (c .before .before .before .loop .inv) (eq-eqb _ _ (c .if1 .left)) (add-one _)
+loop-again c = turn (omega (arith, c .before .before .loop-test .taken)) (let h = c .before .before .before .before .pre in omega arith) (c .before .before .before .loop .inv) (eq-eqb _ _ (c .if1 .left)) (add-one _)
 
 returns-2 : tie.Need-returns-2 Inv-loop μ-loop
 unfolding heading
-returns-2 c = ends (c .loop-test .left) (c .before .loop .inv)
+returns-2 c = ends (omega (arith, c .loop-test .left)) (c .before .loop .inv)
 
 pub headed-spec : {M : Type 1} → statement M
 headed-spec =
