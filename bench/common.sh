@@ -96,6 +96,12 @@ ratio() { # WHAT OF UNIT OURS RUST
     run time | awk '{ printf "time on this machine: %.0f ns a frame, the Rust %.0f, ratio %.3f (of each frame the best of %d rounds, turn about)\n", $1, $2, $1 / $2, $3 }'
 }
 
+# What each function takes by itself, without what it calls.
+shares() { # FRAMES ALL
+    echo "where they go, a frame:"
+    awk -F '\t' -v f="$1" -v all="$2" 'NR <= 6 { printf "%10.1f  %5.2f%%  %s\n", $1 / f, 100 * $1 / all, $2 }' "$made/shares"
+}
+
 # What the port's archive holds: code, constant data, and the code that stands for constant data since it builds a table where it runs.
 archive() {
     local file=$SILLBROOK_STATICLIB/lib$crate.a tables

@@ -34,3 +34,24 @@ pub fn times(inputs: &[&[u8]], port: fn(&[u8]) -> u64, rust: fn(&[u8]) -> u64) {
     let each = |side: usize| best[side].iter().sum::<u128>() as f64 / inputs.len() as f64;
     println!("{:.1} {:.1} {ROUNDS}", each(0), each(1));
 }
+
+/// How far below its caller's frame a call writes: the stack there is painted first, and looked at afterwards.
+// One host has no use for it.
+#[allow(dead_code)]
+#[inline(always)]
+pub fn depth<A>(call: &mut impl FnMut() -> A) -> usize {
+    const PAINTED: usize = 1 << 18;
+    const PAINT: u8 = 0xa5;
+    let mark = 0u8;
+    let top = black_box(&mark) as *const u8 as usize;
+    // A gap for the frames of this function and of what it calls before and after.
+    let low = (top - 1024 - PAINTED) as *mut u8;
+    for i in 0..PAINTED {
+        // SAFETY: the stack of this thread is far larger, and nothing live stands below this function's own frame.
+        unsafe { low.add(i).write_volatile(PAINT) };
+    }
+    black_box(call());
+    // SAFETY: as above.
+    let untouched = (0..PAINTED).take_while(|i| unsafe { low.add(*i).read_volatile() } == PAINT).count();
+    top - (low as usize + untouched)
+}

@@ -42,24 +42,11 @@ fn rust(frame: &[u8]) -> u64 {
     call_rust(frame.as_ptr(), frame.len())
 }
 
-/// How far below its caller's frame one call writes: the stack there is painted first, and looked at afterwards.
+// A function of its own, so that the stack is counted from its frame.
 #[inline(never)]
 fn depth(frame: &[u8]) -> usize {
-    const PAINTED: usize = 1 << 18;
-    const PAINT: u8 = 0xa5;
-    let mark = 0u8;
-    let top = std::hint::black_box(&mark) as *const u8 as usize;
-    // A gap for the frames of this function and of what it calls before and after.
-    let low = (top - 1024 - PAINTED) as *mut u8;
-    for i in 0..PAINTED {
-        // SAFETY: the stack of this thread is far larger, and nothing live stands below this function's own frame.
-        unsafe { low.add(i).write_volatile(PAINT) };
-    }
     // SAFETY: as in `call_rattle`; called from here, so that nothing else stands between.
-    std::hint::black_box(unsafe { bench_parse_frame(frame.as_ptr(), frame.len(), 0) });
-    // SAFETY: as above.
-    let untouched = (0..PAINTED).take_while(|i| unsafe { low.add(*i).read_volatile() } == PAINT).count();
-    top - (low as usize + untouched)
+    shared::depth(&mut || unsafe { bench_parse_frame(frame.as_ptr(), frame.len(), 0) })
 }
 
 fn main() {
