@@ -9,7 +9,7 @@ use std::path::{Path, PathBuf};
 fn main() {
     println!("cargo:rerun-if-env-changed=SILLBROOK_RUST_SRC");
     println!("cargo:rerun-if-changed=build.rs");
-    let from = std::env::var("SILLBROOK_RUST_SRC").expect("set by bench/parse/run");
+    let from = std::env::var("SILLBROOK_RUST_SRC").expect("set by the benchmark");
     for (name, _) in assemble::FILES {
         println!("cargo:rerun-if-changed={}", Path::new(&from).join(name).display());
     }

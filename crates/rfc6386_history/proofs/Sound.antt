@@ -8,11 +8,9 @@ use Prim.Native.Nat.{ℕ}
 use Rattle.vp8_records.specs.declared.Parser.{Parser}
 use Rattle.vp8_records.specs.Shape.{Every}
 use Rattle.vp8_records.specs.Start.{fresh}
-use Rattle.rfc6386.specs.Decoder.{bits, start}
 use Rattle.rfc6386.specs.Runs.{over}
 use Rattle.rfc6386.specs.Coded.{Coded}
 use Rattle.rfc6386.specs.Holds.{Within, Perhaps, Bounded}
-use Rattle.rfc6386.specs.Frame.{decoded}
 use Rattle.rfc6386.specs.Call.{Asked, segmented, adjusted, apply, cleared, called, after}
 use Rattle.rfc6386.proofs.Bounds.{header-bounded}
 use Rattle.rfc6386_history.specs.Refusals.{keyOf, coded}

@@ -2,9 +2,9 @@
 use Prim.Native.Nat.{ℕ, suc, _+_, _≤_, _<_}
 use native.Mathlib.Omega.{arith}
 use native.Mathlib.Numerals.{add-one}
-use mathlib.Core.Path.{_≡_, refl, ap, ap₂, sym, _∙_}
+use mathlib.Core.Path.{_≡_, ap, ap₂, sym, _∙_}
 use mathlib.Core.Bool.{Bool, true, false, _&&_}
-use mathlib.Core.List.{List, [], _∷_}
+use mathlib.Core.List.{List}
 use lib.ListN.{length, getD, drop}
 use lib.Seq.{drop-cons, drop-length}
 use Rattle.vp8_state.specs.Block.{agree}
@@ -14,7 +14,9 @@ pub record Agreed (t : ℕ → ℕ → Bool) (ks bs : List ℕ) (whole : Bool) (
   pub count : i ≤ length ks
   pub rest : agree t (drop i ks) (drop j bs) ≡ whole
 
-module _ {t : ℕ → ℕ → Bool} {ks bs : List ℕ} {whole : Bool} {i j : ℕ} (inside : i < length ks) (within : j < length bs) (a : Agreed t ks bs whole i j) where
+module _
+    {t : ℕ → ℕ → Bool} {ks bs : List ℕ} {whole : Bool} {i j : ℕ}
+    (inside : i < length ks) (within : j < length bs) (a : Agreed t ks bs whole i j) where
   next : t (getD ks i 0) (getD bs j 0) && agree t (drop (suc i) ks) (drop (suc j) bs) ≡ whole
   unfolding agree
   next = sym (ap₂ (agree t) (drop-cons ks i 0 inside) (drop-cons bs j 0 within)) ∙ a .rest

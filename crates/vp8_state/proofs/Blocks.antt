@@ -3,14 +3,12 @@
 use Prim.Native.Nat.{ℕ, zero, suc, _+_, _*_, _<_}
 use native.Mathlib.Omega.{arith}
 use mathlib.Core.Path.{_≡_, refl, ap, ap₂, sym, _∙_}
-use mathlib.Core.Bool.{Bool, true, false, _&&_, false≢true}
+use mathlib.Core.Bool.{Bool, true, false, false≢true}
 use mathlib.Core.List.{List, [], _∷_, _++_, map, append-nil}
 use borrow.Author.Tests.{eqb-true, eq-eqb}
 use lib.Dec.{eqb, lit<}
 use lib.ListN.{length, getD, take, drop, length-append, length-drop, length-map, take-append-drop}
 use lib.Seq.{getD-drop}
-use mir.Syntax.{w8}
-use mir.Val.{Fits}
 use Rattle.vp8_records.specs.declared.Parser.{Parser}
 use Rattle.vp8_records.specs.Layout.{joined}
 use Rattle.vp8_records.specs.Shape.{Sized}
@@ -23,10 +21,9 @@ use Rattle.vp8_flat.specs.Bytes.{segmentationBytes, adjustmentBytes, flatModes,
 use Rattle.vp8_flat.proofs.Whole.{kept-is}
 use Rattle.vp8_state.specs.declared.Verdict.{Verdict}
 use Rattle.vp8_state.specs.declared.Verdict.the-variants.{Taken, OtherSize, OtherHeading, Fault}
-use Rattle.vp8_state.specs.declared.ReadAnswer.{ReadAnswer}
 use Rattle.vp8_state.specs.Block.{heading, sections, recordBytes, block, agree, faultless, refusalOf, blockVerdict, writeVerdict}
 use Rattle.vp8_state.specs.Laid.{part}
-use Rattle.vp8_state.specs.Handed.{taken, Left, left, recordOf, readBlock, writeBlock, stateRead, stateWrite}
+use Rattle.vp8_state.specs.Handed.{taken, left, recordOf, readBlock, writeBlock, stateRead, stateWrite}
 use Rattle.vp8_state.proofs.Laid.{Typed, sound-typed, part-is, record-size, record-back, both, Bytes, bytes-back, sound-laid}
 use Rattle.vp8_state.proofs.NoFault.{sound-faultless, faultless-sound}
 

@@ -1,12 +1,10 @@
 -- Calls over a block are calls over its record, since a call leaves no fault; so what is proved of calls holds of exported ones, by
 -- induction over them, and a record may be handed over between any two.
-use Prim.Native.Nat.{ℕ, _<_}
-use native.Mathlib.Omega.{arith}
+use Prim.Native.Nat.{ℕ}
 use mathlib.Core.Path.{_≡_, refl, ap, ap₂, sym, _∙_}
 use mathlib.Core.Bool.{true, false}
 use mathlib.Core.List.{List, [], _∷_, _++_, map}
-use borrow.Author.Tests.{lt-ltb, le-ltb}
-use lib.Dec.{ltb, lit<, lit≤}
+use lib.Dec.{ltb}
 use lib.ListN.{length}
 use Rattle.vp8_records.specs.declared.Parser.{Parser}
 use Rattle.vp8_records.specs.declared.Parsed.{Parsed}
@@ -28,7 +26,8 @@ use Rattle.vp8_state.specs.declared.Verdict.{Verdict}
 use Rattle.vp8_state.specs.declared.Verdict.the-variants.{Taken, OtherSize, OtherHeading, Fault}
 use Rattle.vp8_state.specs.declared.ReadAnswer.{ReadAnswer}
 use Rattle.vp8_state.specs.Block.{block, refusalOf, blockVerdict}
-use Rattle.vp8_state.specs.Handed.{taken, Left, left, recordOf, readBlock, writeBlock, Offer, asked, handed, stateParse, theCalls, callsAnswers, Exported, stop, own, other}
+use Rattle.vp8_state.specs.Handed.{taken, Left, left, recordOf, readBlock, writeBlock, Offer, asked, handed, stateParse}
+use Rattle.vp8_state.specs.Handed.{Exported, stop, own, other, theCalls, callsAnswers}
 use Rattle.vp8_state.proofs.Laid.{Bytes}
 use Rattle.vp8_state.proofs.Blocks.{by-number, is-block, taken-sound, block-taken, record-of, read-back, write-taken}
 
@@ -168,8 +167,8 @@ unfolding calls after
 calls-then p [] ys = refl
 calls-then p (x ∷ xs) ys = ap (λ (l : List Parsed). called p x ∷ l) (calls-then (called p x .parser) xs ys)
 
--- the same of records: A calls `parse` on xs and writes its record q into a block; B reads that and calls `parse` on ys. No step is refused,
--- and the answers and the record are those of one process that is asked xs and then ys
+-- the same of records: A calls `parse` on xs and writes its record q into a block; B reads that and calls `parse` on ys. No step is
+-- refused, and the answers and the record are those of one process that is asked xs and then ys
 pub handed-over : (p : Parser) {q s t : Parser} {xs ys : List Asked} {rs ss ts : List Parsed} (b d : List ℕ) (v : Verdict) (a : ReadAnswer)
     → Sound p → Answered Parsed ByValue p xs rs q → length b ≡ 1148 → left v d ≡ writeBlock q b → a ≡ readBlock d
     → Answered Parsed ByValue (a .parser) ys ss s → Answered Parsed ByValue p (xs ++ ys) ts t

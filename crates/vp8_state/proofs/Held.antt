@@ -33,7 +33,9 @@ module _ (p : Parser) (vs : List Val) (held : Is Held.the-row p vs) where
             (quantizers .1 .1);
         levels =
             every-of _ _ _ (SFits w8) (λ x u o. record { sfits = o .1 }) (p .segmentation .«lf_update_value») (levels .0) (levels .1 .1);
-        frames = every-of _ _ _ (SFits w8) (λ x u o. record { sfits = o .1 }) (p .«mb_lf_adjust» .«ref_frame_delta») (frames .0) (frames .1 .1);
+        frames =
+            every-of _ _ _ (SFits w8) (λ x u o. record { sfits = o .1 }) (p .«mb_lf_adjust» .«ref_frame_delta») (frames .0)
+            (frames .1 .1);
         modes = every-of _ _ _ (SFits w8) (λ x u o. record { sfits = o .1 }) (p .«mb_lf_adjust» .«mb_mode_delta») (modes .0) (modes .1 .1);
       }
 

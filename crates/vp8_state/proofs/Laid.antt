@@ -6,10 +6,10 @@ use native.Mathlib.Nat.{add-zero, le-of-suc-le-suc, not-suc-le-zero}
 use mathlib.Core.Path.{_≡_, refl, ap, ap₂, sym, subst, _∙_}
 use mathlib.Core.Bool.{Bool, true, false, _&&_, false≢true}
 use mathlib.Core.List.{List, [], _∷_, _++_, map, append-assoc, append-nil}
-use borrow.Author.Tests.{eqb-true, ltb-true, leb-true}
-use lib.Dec.{eqb, ltb, leb, lit<, lit≤}
-use lib.IntN.{ℤ, pos, negsuc, natAbs}
-use lib.ListN.{length, getD, take, drop, length-append, length-drop, length-map, take-append-drop, List·getD-map}
+use borrow.Author.Tests.{ltb-true, leb-true}
+use lib.Dec.{eqb, ltb, lit<, lit≤}
+use lib.IntN.{ℤ, pos, negsuc}
+use lib.ListN.{length, getD, take, drop, length-append, length-drop, length-map, take-append-drop}
 use lib.Seq.{take-all, take-at, drop-at, drop-length, drop-drop, drop-cons, getD-take, getD-drop, length-take-le}
 use mir.Syntax.{w8}
 use mir.Val.{Fits, SFits, toZ, ofZ}

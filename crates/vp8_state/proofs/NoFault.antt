@@ -2,7 +2,7 @@
 use Prim.Native.Nat.{ℕ, zero, suc, _<_}
 use native.Mathlib.Omega.{arith}
 use mathlib.Core.Path.{_≡_, refl, ap, sym, subst, _∙_}
-use mathlib.Core.Bool.{Bool, true, false, _&&_}
+use mathlib.Core.Bool.{Bool, true, false}
 use mathlib.Core.List.{List, [], _∷_, _++_, map}
 use borrow.Author.Tests.{le-leb}
 use lib.Dec.{leb, lit<}
@@ -18,7 +18,6 @@ use Rattle.rfc6386.specs.Holds.{Within}
 use Rattle.rfc6386_history.specs.Sound.{Sound}
 use Rattle.vp8_flat.specs.Bytes.{bitOf}
 use Rattle.vp8_state.specs.Block.{recordBytes, agree, allows, kinds, faultless}
-use Rattle.vp8_state.specs.Laid.{parserOf}
 use Rattle.vp8_state.proofs.Laid.{Typed, fits, in-pieces, signed-size, record-size, record-back, sound-laid}
 
 abbrev Passes : ℕ → ℕ → Type 0

@@ -1,24 +1,23 @@
 -- Writing and reading out of their tests and stores: what is tested of a record is its first 25 bytes, and what is stored its block, or its
 -- bytes.
-use Prim.Native.Nat.{ℕ, _+_, _≤_}
+use Prim.Native.Nat.{ℕ, _≤_}
 use native.Mathlib.Omega.{arith}
 use native.Mathlib.Nat.{le-of-suc-le-suc}
-use mathlib.Core.Path.{_≡_, refl, ap, ap₂, sym, _∙_}
+use mathlib.Core.Path.{_≡_, refl, ap, sym, _∙_}
 use mathlib.Core.Bool.{Bool, true, false, _&&_}
 use mathlib.Core.List.{List, [], _∷_, _++_, append-assoc, append-nil}
 use borrow.Author.Tests.{eq-eqb, ne-eqb}
 use lib.Dec.{eqb}
-use lib.ListN.{length, getD, drop, length-append}
+use lib.ListN.{length, drop, length-append}
 use lib.Seq.{paste}
 use Rattle.vp8_records.specs.declared.Parser.{Parser}
 use Rattle.vp8_records.specs.Layout.{joined, flatCoeffs, flatMv}
 use Rattle.rfc6386.specs.Decoder.{pick}
 use Rattle.vp8_flat.specs.Bytes.{segmentationBytes, adjustmentBytes, flatModes}
-use Rattle.vp8_state.specs.declared.Verdict.{Verdict}
-use Rattle.vp8_state.specs.declared.Verdict.the-variants.{Taken, OtherSize, OtherHeading, Fault}
+use Rattle.vp8_state.specs.declared.Verdict.the-variants.{Taken, OtherSize, Fault}
 use Rattle.vp8_state.specs.Block.{heading, recordBytes, block, agree, allows, kinds, faultless, refusalOf, blockVerdict, writeVerdict}
 use Rattle.vp8_state.specs.Laid.{parserOf}
-use Rattle.vp8_state.specs.Handed.{taken, Left, left, recordOf, writeBlock, stateRead, stateWrite}
+use Rattle.vp8_state.specs.Handed.{taken, left, writeBlock, stateRead, stateWrite}
 use Rattle.vp8_state.proofs.Pastes.{begin, more, whole}
 use Rattle.vp8_state.proofs.Laid.{Bytes, bytes-back}
 use Rattle.vp8_state.proofs.Blocks.{not-taken, is-block, taken-bytes}
@@ -102,7 +101,8 @@ module _ (b o : List ℕ) where
     unfolding stateRead
     not-read h = rw (eq-eqb (length o) 1126 n) (ap (left (refusalOf (blockVerdict b))) (sym (not-taken (blockVerdict b) _ o h)))
 
-    pub was-read : Bytes b → blockVerdict b ≡ Taken → {c : List ℕ} → c ≡ paste o 0 (drop 22 b) (length (drop 22 b)) → left 0 c ≡ stateRead b o
+    pub was-read : Bytes b → blockVerdict b ≡ Taken → {c : List ℕ} → c ≡ paste o 0 (drop 22 b) (length (drop 22 b))
+        → left 0 c ≡ stateRead b o
     unfolding stateRead
     was-read bytes h {c} p =
         let t = is-block b h in

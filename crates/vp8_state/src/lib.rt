@@ -1,5 +1,5 @@
-// The parser record handed over as a block of bytes: written, read, and one call over it, for Rattle and, with numbers and byte slices only,
-// for hosts that link the library. docs/RULES.md has the block. No public function has a premise.
+// The parser record handed over as a block of bytes (docs/RULES.md, the block): written, read, and one call over it; for Rattle, and, with
+// numbers and byte slices only, for hosts that link the library. No public function has a premise.
 use vp8_records::CoeffProbs;
 use vp8_records::MbLfAdjustments;
 use vp8_records::Mode;
@@ -25,7 +25,10 @@ ghost use Rattle.vp8_state.specs.Handed.{left, readBlock, writeBlock, st
 // The bytes of a block.
 pub const SIZE: usize = 1148;
 
-// The bytes of its heading: how many sections there are, then offset and length of each.
+// Those of a flat record: what follows the heading.
+pub const RECORD: usize = 1126;
+
+// Its heading: how many sections there are, then offset and length of each.
 const HEADING: [u8; 22] = [
     5,
     0,
@@ -391,7 +394,7 @@ pub fn read_block(block: &[u8]) -> ReadAnswer
 pub extern "C" fn vp8_state_read(block: &[u8], bytes: &mut [u8]) -> u32
     ensures { λ r. ⌜ left r (now (bytes .exit)) ≡ stateRead (now (block .entry)) (now (bytes .entry)) ⌝ }
 {
-    if bytes.len() != 1126 {
+    if bytes.len() != RECORD {
         return 13;
     }
     let refusal = block_verdict(block).number();
@@ -410,7 +413,7 @@ pub extern "C" fn vp8_state_write(bytes: &[u8], block: &mut [u8]) -> u32
     if block.len() != SIZE {
         return 13;
     }
-    if bytes.len() != 1126 {
+    if bytes.len() != RECORD {
         return 13;
     }
     if !faultless(bytes, 0) {

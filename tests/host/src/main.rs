@@ -1,10 +1,10 @@
 //! The port's exported calls beside the Rust as given, frame by frame; and a record that is handed over from one process to another.
 //! Called by tests/host/run, with frame records (docs/RULES.md, "The programs") on standard input or in a file.
 //!   beside          every frame by both, in its mode; blocks that are to be refused among the calls
-//!   give FILE       calls up to a refused frame that changes the record; then the block, and how many frames it has had, go to
-//!                   standard output, and the record is printed to standard error
+//!   give N FILE     calls up to a frame that is refused by N and changes the record; then the block, and how many frames it has had, go
+//!                   to standard output, and the record is printed to standard error
 //!   take FILE       takes these from standard input, prints the record, goes on with the frames after it, and prints the record again
-//!   whole FILE      the same calls by one process, and by the Rust: the record there and at the end
+//!   whole N FILE    the same calls by one process, and by the Rust: the record there and at the end
 #![no_main]
 
 // The Rust says `log::debug`; this program plays that crate, and its one macro does nothing.
@@ -225,7 +225,7 @@ pub extern "C" fn main(_: i32, _: *const *const u8) -> i32 {
         "give" => give(refusal, word(2)),
         "take" => take(word(1)),
         "whole" => whole(refusal, word(2)),
-        _ => stop("call: host beside | give REFUSAL FILE | take FILE | whole REFUSAL FILE"),
+        _ => stop("call: host beside | give N FILE | take FILE | whole N FILE"),
     }
     0
 }

@@ -125,3 +125,15 @@ pub fn number(bytes: &[u8]) -> u64 {
     sum.probs(&parser.coeff_prob, &parser.mv_prob, &parser.mode_probs, place);
     sum.0
 }
+
+/// A call over a parser that is kept: the number of the refusal, or 0.
+pub fn kept(parser: &mut Parser, bytes: &[u8]) -> u64 {
+    match parser.parse_frame(bytes) {
+        Ok(frame) => {
+            // So that the header is made.
+            std::hint::black_box(&frame);
+            0
+        }
+        Err(why) => refusal(&why),
+    }
+}

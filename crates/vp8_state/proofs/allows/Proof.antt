@@ -25,7 +25,10 @@ returns-2 : tie.Need-returns-2
 returns-2 c = sym (ap (λ (k : ℕ). allows k (c .before .args .b)) (c .match .keys2))
 
 returns-3 : tie.Need-returns-3
-returns-3 c = let r = c .before .match .rest in ap (λ (m : ℕ). leb m (c .before .before .args .kind)) (c .magnitude .ensures) ∙ more (c .before .before .args .kind) (c .before .before .args .b) (r .0 .1) (r .1)
+returns-3 c =
+    let r = c .before .match .rest in
+    let a = c .before .before .args in
+    ap (λ (m : ℕ). leb m (a .kind)) (c .magnitude .ensures) ∙ more (a .kind) (a .b) (r .0 .1) (r .1)
 
 pub allows-spec : {M : Type 1} → statement M
 allows-spec = tie.close (tie.spec magnitude-requires returns returns-2 returns-3)

@@ -1,9 +1,8 @@
 -- The tests from i on give what all of them give: `Agree`.
-use Prim.Native.Nat.{ℕ, suc, _+_, _-_}
-use mathlib.Core.Path.{_≡_, refl, ap, sym, _∙_}
+use Prim.Native.Nat.{ℕ, _+_, _-_}
+use mathlib.Core.Path.{ap, sym, _∙_}
 use native.Mathlib.Nat.{add-zero}
 use native.Mathlib.Omega.{arith}
-use native.Mathlib.Numerals.{add-one}
 use borrow.Author.Tests.{not-true, not-false}
 use lib.ListN.{drop}
 use Rattle.vp8_state.specs.Block.{agree, allows, kinds}
@@ -20,7 +19,9 @@ abbrev μ-loop : tie.MeasureT-loop
 
 loop-holds : tie.Need-loop-holds Inv-loop μ-loop
 unfolding kinds
-loop-holds c = record { count = omega arith; rest = ap (λ (n : ℕ). agree allows kinds (drop n (c .before .args .bytes .now))) (add-zero (c .before .args .at)) }
+loop-holds c =
+    let a = c .before .args in
+    record { count = omega arith; rest = ap (λ (n : ℕ). agree allows kinds (drop n (a .bytes .now))) (add-zero (a .at)) }
 
 array-read-allows : tie.Need-array-read-allows Inv-loop μ-loop
 array-read-allows c = search needs
@@ -36,7 +37,11 @@ allows-requires c κs = search needs
 
 returns : tie.Need-returns Inv-loop μ-loop
 unfolding kinds
-returns c = fails (omega (arith, c .before .before .before .loop-test .taken)) (let h = c .before .before .before .before .before .before .pre in omega arith) (c .before .before .before .before .loop .inv) (sym (c .before .allows .ensures) ∙ not-true _ (c .if1 .taken))
+returns c =
+    let l = c .before .before .before in
+    let h = l .before .before .before .pre in
+    fails (omega (arith, l .loop-test .taken)) (omega arith) (l .before .loop .inv)
+    (sym (c .before .allows .ensures) ∙ not-true _ (c .if1 .taken))
 
 add-i : tie.Need-add-i Inv-loop μ-loop
 add-i c = search needs
@@ -46,7 +51,11 @@ loop-less c = search needs
 
 loop-again : tie.Need-loop-again Inv-loop μ-loop
 unfolding kinds
-loop-again c = turn (omega (arith, c .before .before .before .loop-test .taken)) (let h = c .before .before .before .before .before .before .pre in omega arith) (c .before .before .before .before .loop .inv) (sym (c .before .allows .ensures) ∙ not-false _ (c .if1 .left)) (omega arith)
+loop-again c =
+    let l = c .before .before .before in
+    let h = l .before .before .before .pre in
+    turn (omega (arith, l .loop-test .taken)) (omega arith) (l .before .loop .inv)
+    (sym (c .before .allows .ensures) ∙ not-false _ (c .if1 .left)) (omega arith)
 
 returns-2 : tie.Need-returns-2 Inv-loop μ-loop
 unfolding kinds

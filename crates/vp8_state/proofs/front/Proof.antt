@@ -1,10 +1,8 @@
 -- Two runs, one after the other, are as long as the array: `full`.
 use native.Mathlib.Omega.{arith}
 use mathlib.Core.Path.{_≡_, ap, sym, _∙_}
-use mathlib.Core.List.{_++_, map}
+use mathlib.Core.List.{_++_}
 use lib.ListN.{length, length-append, length-map}
-use mir.Syntax.{w8}
-use mir.Val.{ofZ}
 use borrow.Author.Needs.{needs}
 use Rattle.text.specs.Text.{Text, puts}
 use Rattle.text.proofs.Puts.{puts-append}
@@ -43,7 +41,8 @@ returns c =
     let both = c .before .put-adjustments in
     let size = sizes start in
     full _ _ _ _ (sym size) (both .kept .0 ∙ first .kept .0 ∙ sym size)
-    (both .ensures ∙ ap (λ (t : Text). puts t (adjustmentBytes (start .args .a))) (first .ensures) ∙ sym (puts-append _ (segmentationBytes (start .args .s)) _))
+    (both .ensures ∙ ap (λ (t : Text). puts t (adjustmentBytes (start .args .a))) (first .ensures)
+    ∙ sym (puts-append _ (segmentationBytes (start .args .s)) _))
 
 pub front-spec : {M : Type 1} → statement M
 front-spec =

@@ -1,6 +1,6 @@
 -- The tests from i on give what all of them give: `Agree`.
-use Prim.Native.Nat.{ℕ, suc, _-_}
-use mathlib.Core.Path.{_≡_, refl}
+use Prim.Native.Nat.{_-_}
+use mathlib.Core.Path.{refl}
 use native.Mathlib.Omega.{arith}
 use native.Mathlib.Numerals.{add-one}
 use borrow.Author.Tests.{eq-eqb, ne-eqb}
@@ -29,7 +29,10 @@ shared-slice-read-if1 c = search needs
 
 returns : tie.Need-returns Inv-loop μ-loop
 unfolding heading
-returns c = fails (omega (arith, c .before .before .loop-test .taken)) (let h = c .before .before .before .before .pre in omega arith) (c .before .before .before .loop .inv) (ne-eqb _ _ (c .if1 .taken))
+returns c =
+    let l = c .before .before in
+    let h = l .before .before .pre in
+    fails (omega (arith, l .loop-test .taken)) (omega arith) (l .before .loop .inv) (ne-eqb _ _ (c .if1 .taken))
 
 add-i : tie.Need-add-i Inv-loop μ-loop
 add-i c = search needs
@@ -39,7 +42,10 @@ loop-less c = search needs
 
 loop-again : tie.Need-loop-again Inv-loop μ-loop
 unfolding heading
-loop-again c = turn (omega (arith, c .before .before .loop-test .taken)) (let h = c .before .before .before .before .pre in omega arith) (c .before .before .before .loop .inv) (eq-eqb _ _ (c .if1 .left)) (add-one _)
+loop-again c =
+    let l = c .before .before in
+    let h = l .before .before .pre in
+    turn (omega (arith, l .loop-test .taken)) (omega arith) (l .before .loop .inv) (eq-eqb _ _ (c .if1 .left)) (add-one _)
 
 returns-2 : tie.Need-returns-2 Inv-loop μ-loop
 unfolding heading

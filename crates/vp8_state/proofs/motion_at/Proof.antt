@@ -39,7 +39,9 @@ laid-requires : tie.Need-laid-requires Inv-loop μ-loop
 laid-requires c κs = search needs
 
 returns : tie.Need-returns Inv-loop μ-loop
-returns c = c .laid .ensures ∙ ap (λ (xs : List ℕ). laidMv xs) (end (c .before .before .loop-test .left) (c .before .before .before .loop .inv))
+returns c =
+    let l = c .before .before in
+    c .laid .ensures ∙ ap (λ (xs : List ℕ). laidMv xs) (end (l .loop-test .left) (l .before .loop .inv))
 
 pub motion-at-spec : {M : Type 1} → statement M
 motion-at-spec =

@@ -27,7 +27,11 @@ add-block : tie.Need-add-block Inv-loop μ-loop
 add-block c = search needs
 
 slice-write-block : tie.Need-slice-write-block Inv-loop μ-loop
-slice-write-block c = let l = c .before .before .loop in let a = c .before .before .before .args in let k = ap length (l .inv .1) ∙ length-paste (now (a .block)) (a .at) (now (a .bytes)) (l .i) (omega arith) (omega arith) in omega arith
+slice-write-block c =
+    let l = c .before .before .loop in
+    let a = c .before .before .before .args in
+    let k = ap length (l .inv .1) ∙ length-paste (now (a .block)) (a .at) (now (a .bytes)) (l .i) (omega arith) (omega arith) in
+    omega arith
 
 add-i : tie.Need-add-i Inv-loop μ-loop
 add-i c = search needs
@@ -36,13 +40,27 @@ loop-less : tie.Need-loop-less Inv-loop μ-loop
 loop-less c = search needs
 
 loop-again : tie.Need-loop-again Inv-loop μ-loop
-loop-again c = let l = c .before .before .loop in let a = c .before .before .before .args in (omega arith, ap (λ (x : List ℕ). set x (a .at + l .i) (getD (now (a .bytes)) (l .i) 0)) (l .inv .1) ∙ paste-suc (now (a .block)) (a .at) (now (a .bytes)) (l .i) 0 (omega arith) (omega arith) ∙ ap (λ (k : ℕ). paste (now (a .block)) (a .at) (now (a .bytes)) k) (sym (add-one (l .i))))
+loop-again c =
+    let l = c .before .before .loop in
+    let a = c .before .before .before .args in
+    let b = now (a .block) in
+    let s = now (a .bytes) in (
+      omega arith,
+      ap (λ (x : List ℕ). set x (a .at + l .i) (getD s (l .i) 0)) (l .inv .1)
+          ∙ paste-suc b (a .at) s (l .i) 0 (omega arith) (omega arith) ∙ ap (λ (k : ℕ). paste b (a .at) s k) (sym (add-one (l .i))),
+    )
 
 same-length : tie.Need-same-length Inv-loop μ-loop
-same-length c = let l = c .before .loop in let a = c .before .before .args in ap length (l .inv .1) ∙ length-paste (now (a .block)) (a .at) (now (a .bytes)) (l .i) (omega arith) (omega arith)
+same-length c =
+    let l = c .before .loop in
+    let a = c .before .before .args in
+    ap length (l .inv .1) ∙ length-paste (now (a .block)) (a .at) (now (a .bytes)) (l .i) (omega arith) (omega arith)
 
 returns : tie.Need-returns Inv-loop μ-loop
-returns c = let l = c .before .loop in let e : l .i ≡ length (now (c .before .before .args .bytes)) = omega arith in rw e at (l .inv .1)
+returns c =
+    let l = c .before .loop in
+    let e : l .i ≡ length (now (c .before .before .args .bytes)) = omega arith in
+    rw e at (l .inv .1)
 
 pub put-spec : {M : Type 1} → statement M
 put-spec =

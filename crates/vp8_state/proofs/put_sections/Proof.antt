@@ -13,6 +13,9 @@ use Rattle.vp8_state.proofs.put_sections.Tie as tie
 sized : (c : tie.Start) → length (c .args .coeffs .v) ≡ 1056
 sized c = search needs
 
+front-sized : (c : tie.Start) → length (c .args .t2) ≡ 25
+front-sized c = search needs
+
 motion-requires : tie.Need-motion-requires
 motion-requires c κs = search needs
 
@@ -35,7 +38,10 @@ slice-aggregate-put-3 : tie.Need-slice-aggregate-put-3
 slice-aggregate-put-3 c = search needs
 
 put-requires-3 : tie.Need-put-requires-3
-put-requires-3 c κs = let n = sized (c .before .before .before .before .before .before .before .before .before .before .before .before .before .before .before .before) in search needs
+put-requires-3 c κs =
+    let e = c .before .before .before .before .before .before .before .before in
+    let n = sized (e .before .before .before .before .before .before .before .before) in
+    search needs
 
 slice-aggregate-put-4 : tie.Need-slice-aggregate-put-4
 slice-aggregate-put-4 c = search needs
@@ -55,22 +61,27 @@ same-length c = search needs
 returns : tie.Need-returns
 unfolding heading
 returns c =
-    let start = c .before .before .before .before .before .before .before .before .before .before .before .before .before .before .before .before .before .before .before .before .before .before .before .before .before .before .before .before .before in
-    let n : length (start .args .t2) ≡ 25 = search needs in
-    let motion = c .before .before .before .before .before .before .before .before .before .before .before .before .before .before .before .before .before .before .before .before .before .before .before .before .before .before .motion in
-    let modes = c .before .before .before .before .before .before .before .before .before .before .before .before .before .before .before .before .before .before .before .before .before .before .before .before .before .modes in
+    let e5 = c .before .before in
+    let e4 = e5 .before .before .before .before .before in
+    let e3 = e4 .before .before .before .before .before in
+    let e2 = e3 .before .before .before .before .before in
+    let e1 = e2 .before .before .before .before .before in
+    let e = e1 .before .before .before in
+    let start = e .before .before .before .before in
+    let modes = e .modes in
+    let motion = e .before .motion in
     let v : length (motion .result) ≡ 38 = search needs in
     let w : length (modes .result) ≡ 7 = search needs in
     let u = start .args .coeffs .v in
-    c .before .before .put5 .ensures
+    e5 .put5 .ensures
     ∙ ap (λ (l : List ℕ). paste l 1141 (modes .result) (length (modes .result)))
-    (c .before .before .before .before .before .before .before .put4 .ensures
+    (e4 .put4 .ensures
     ∙ ap (λ (l : List ℕ). paste l 1103 (motion .result) (length (motion .result)))
-    (c .before .before .before .before .before .before .before .before .before .before .before .before .put3 .ensures
+    (e3 .put3 .ensures
     ∙ ap (λ (l : List ℕ). paste l 47 u (length u))
-    (c .before .before .before .before .before .before .before .before .before .before .before .before .before .before .before .before .before .put2 .ensures
-    ∙ ap (λ (l : List ℕ). paste l 22 (start .args .t2) (length (start .args .t2))) (c .before .before .before .before .before .before .before .before .before .before .before .before .before .before .before .before .before .before .before .before .before .before .put .ensures))))
-    ∙ five (start .args .block .now) heading (start .args .t2) u (motion .result) (modes .result) (start .pre) refl n (sized start) v w
+    (e2 .put2 .ensures ∙ ap (λ (l : List ℕ). paste l 22 (start .args .t2) (length (start .args .t2))) (e1 .put .ensures))))
+    ∙ five (start .args .block .now) heading (start .args .t2) u (motion .result) (modes .result) (start .pre) refl (front-sized start)
+    (sized start) v w
     ∙ ap₂ {C = List ℕ} (λ x y. heading ++ start .args .t2 ++ u ++ x ++ y) (motion .ensures) (modes .ensures)
 
 pub put-sections-spec : {M : Type 1} → statement M

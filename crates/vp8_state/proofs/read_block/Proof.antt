@@ -1,7 +1,7 @@
 -- The verdict, then what follows the heading.
 use native.Mathlib.Omega.{arith}
 use mathlib.Core.Path.{_≡_, ap, sym, _∙_}
-use lib.ListN.{length, drop, length-drop}
+use lib.ListN.{length, length-drop}
 use borrow.Author.Needs.{needs}
 use Rattle.vp8_records.specs.Start.{fresh}
 use Rattle.vp8_state.specs.declared.Verdict.{Verdict}
@@ -26,9 +26,11 @@ new-requires c κs = search needs
 returns : tie.Need-returns
 unfolding readBlock
 returns c =
-    let b = c .before .before .before .before .before .args .block .now in
-    let v = c .before .before .before .block-verdict .ensures in
-    let refused : refusalOf (blockVerdict b) ≡ 0 → ⊥ = λ z. c .before .if1 .taken (c .before .before .number .ensures ∙ ap refusalOf v ∙ z) in
+    let e = c .before .before .before in
+    let b = e .before .before .args .block .now in
+    let v = e .block-verdict .ensures in
+    let refused : refusalOf (blockVerdict b) ≡ 0 → ⊥ =
+    λ z. c .before .if1 .taken (c .before .before .number .ensures ∙ ap refusalOf v ∙ z) in
     λ i. record { verdict = v i; parser = (c .new .ensures ∙ sym (not-taken (blockVerdict b) (recordOf b) fresh refused)) i }
 
 -- it is a block
@@ -57,10 +59,11 @@ parser-of-requires c κs =
 returns-2 : tie.Need-returns-2
 unfolding readBlock
 returns-2 c =
-    let b = c .before .before .before .before .before .before .args .block .now in
-    let v = c .before .before .before .before .block-verdict .ensures in
-    let r : c .parser-of .result ≡ taken (blockVerdict b) (recordOf b) fresh =
-    c .parser-of .ensures ∙ ap parserOf (tail 22 b) ∙ sym (ap (λ (x : Verdict). taken x (recordOf b) fresh) (is (c .before .before))) in
+    let e = c .before .before .before .before in
+    let b = e .before .before .args .block .now in
+    let v = e .block-verdict .ensures in
+    let t = ap (λ (x : Verdict). taken x (recordOf b) fresh) (is (c .before .before)) in
+    let r : c .parser-of .result ≡ taken (blockVerdict b) (recordOf b) fresh = c .parser-of .ensures ∙ ap parserOf (tail 22 b) ∙ sym t in
     λ i. record { verdict = v i; parser = r i }
 
 pub read-block-spec : {M : Type 1} → statement M

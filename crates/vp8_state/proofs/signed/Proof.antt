@@ -25,7 +25,9 @@ returns : tie.Need-returns
 returns c = search needs
 
 returns-2 : tie.Need-returns-2
-returns-2 c = toZ-ofZ {w = w8} (minus-fits (255 - c .before .args .b) (omega arith)) ∙ minus (255 - c .before .args .b) (omega arith) ∙ sym (high (c .before .args .b) (c .if1 .left))
+returns-2 c =
+    let b = c .before .args .b in
+    toZ-ofZ {w = w8} (minus-fits (255 - b) (omega arith)) ∙ minus (255 - b) (omega arith) ∙ sym (high b (c .if1 .left))
 
 pub signed-spec : {M : Type 1} → statement M
 signed-spec =

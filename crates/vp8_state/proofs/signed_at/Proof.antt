@@ -46,7 +46,11 @@ returns c =
     let f1 : SFits w8 (c .before .before .signed2 .result) = search needs in
     let f2 : SFits w8 (c .before .signed3 .result) = search needs in
     let f3 : SFits w8 (c .signed4 .result) = search needs in
-    (λ i. (toZ-ofZ {w = w8} f0 ∙ c .before .before .before .signed .ensures) i ∷ (toZ-ofZ {w = w8} f1 ∙ c .before .before .signed2 .ensures) i ∷ (toZ-ofZ {w = w8} f2 ∙ c .before .signed3 .ensures) i ∷ (toZ-ofZ {w = w8} f3 ∙ c .signed4 .ensures) i ∷ [])
+    let e0 = toZ-ofZ {w = w8} f0 ∙ c .before .before .before .signed .ensures in
+    let e1 = toZ-ofZ {w = w8} f1 ∙ c .before .before .signed2 .ensures in
+    let e2 = toZ-ofZ {w = w8} f2 ∙ c .before .signed3 .ensures in
+    let e3 = toZ-ofZ {w = w8} f3 ∙ c .signed4 .ensures in
+    (λ i. e0 i ∷ e1 i ∷ e2 i ∷ e3 i ∷ [])
     ∙ sym (spread (four .result) n) ∙ ap (λ (x : List ℕ). map (toZ w8) x) (four .ensures)
 
 pub signed-at-spec : {M : Type 1} → statement M

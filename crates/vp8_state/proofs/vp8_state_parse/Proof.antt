@@ -3,7 +3,6 @@ use mathlib.Core.Path.{ap, sym, _∙_}
 use borrow.Author.Needs.{needs}
 use Rattle.vp8_records.specs.declared.Mode.{Mode}
 use Rattle.rfc6386.specs.Call.{call}
-use Rattle.vp8_state.specs.Block.{refusalOf}
 use Rattle.vp8_state.specs.Handed.{Offer}
 use Rattle.vp8_state.proofs.Handed.{steps-refused, steps-called}
 use Rattle.vp8_state.proofs.vp8_state_parse.Statement.{statement}
@@ -40,14 +39,15 @@ same-length-2 c = search needs
 
 returns-2 : tie.Need-returns-2
 returns-2 c =
-    let a = c .before .before .before .before .before .before .before .before .before .before .before .before .before .before .before .args in
-    let read = c .before .before .before .before .before .before .before .before .before .before .before .read-block in
-    let parsed = c .before .before .before .before .before .before .parse-in in
+    let d = c .before .before .before .before .before .before in
+    let e = d .before .before .before .before in
+    let read = e .before .read-block in
+    let a = e .before .before .before .before .before .args in
     let x : Offer = record { mode = a .mode; frame = a .frame .now } in
-    steps-called (a .block .now) x (read .result) (read .ensures) (c .before .before .before .before .before .before .before .before .before .before .before .before .before .before .slice-known .given)
-    (sym (c .before .before .before .before .before .before .before .before .before .before .number .ensures) ∙ c .before .before .before .before .before .before .before .before .before .if1 .left)
-    (parsed .result) (parsed .ensures ∙ ap (λ (md : Mode). call md (read .result .parser) (a .frame .now)) (c .before .before .before .before .before .before .before .of .ensures))
-    _ _ (c .before .before .before .write-block .ensures) _ (c .number2 .ensures)
+    let said = d .parse-in .ensures ∙ ap (λ (md : Mode). call md (read .result .parser) (a .frame .now)) (d .before .of .ensures) in
+    steps-called (a .block .now) x (read .result) (read .ensures) (e .before .before .before .before .slice-known .given)
+    (sym (e .number .ensures) ∙ d .before .before .before .if1 .left) (d .parse-in .result) said _ _
+    (c .before .before .before .write-block .ensures) _ (c .number2 .ensures)
 
 pub vp8-state-parse-spec : {M : Type 1} → statement M
 vp8-state-parse-spec =

@@ -8,7 +8,7 @@ use lib.Seq.{paste}
 use borrow.Author.Needs.{needs}
 use Rattle.vp8_state.specs.declared.Verdict.the-variants.{Taken}
 use Rattle.vp8_state.specs.Block.{refusalOf, blockVerdict}
-use Rattle.vp8_state.specs.Handed.{Left, left, stateRead}
+use Rattle.vp8_state.specs.Handed.{left}
 use Rattle.vp8_state.proofs.Pastes.{tail}
 use Rattle.vp8_state.proofs.Blocks.{by-number, is-block}
 use Rattle.vp8_state.proofs.Stores.{other-buffer, not-read, was-read}
@@ -26,10 +26,12 @@ number-requires c κs = search needs
 
 returns-2 : tie.Need-returns-2
 returns-2 c =
-    let b = c .before .before .before .before .before .before .args .block .now in
-    let o = c .before .before .before .before .before .before .args .bytes .now in
-    let r : c .before .number .result ≡ refusalOf (blockVerdict b) = c .before .number .ensures ∙ ap refusalOf (c .before .before .block-verdict .ensures) in
-    ap (λ (n : ℕ). left n o) r ∙ not-read b o (c .before .before .before .if1 .left) (λ z. c .if2 .taken (r ∙ z))
+    let e = c .before .before in
+    let b = e .before .before .before .before .args .block .now in
+    let o = e .before .before .before .before .args .bytes .now in
+    let r : c .before .number .result ≡ refusalOf (blockVerdict b) =
+    c .before .number .ensures ∙ ap refusalOf (e .block-verdict .ensures) in
+    ap (λ (n : ℕ). left n o) r ∙ not-read b o (e .before .if1 .left) (λ z. c .if2 .taken (r ∙ z))
 
 -- it is a block
 is : (c : tie.Else2) → blockVerdict (c .before .before .before .before .before .before .args .block .now) ≡ Taken
@@ -57,9 +59,11 @@ same-length c = search needs
 
 returns-3 : tie.Need-returns-3
 returns-3 c =
-    let b = c .before .before .before .before .before .before .before .before .before .before .before .args .block .now in
-    let o = c .before .before .before .before .before .before .before .before .before .before .before .args .bytes .now in
-    was-read b o (c .before .before .before .before .before .before .before .before .if1 .left) (c .before .before .before .before .before .before .before .before .before .before .shared-slice-known .given) (is (c .before .before .before .before .before))
+    let e = c .before .before .before .before .before in
+    let a = e .before .before .before .before .before .before .args in
+    let b = a .block .now in
+    let o = a .bytes .now in
+    was-read b o (e .before .before .before .if1 .left) (e .before .before .before .before .before .shared-slice-known .given) (is e)
     (c .before .before .put .ensures ∙ ap (λ (l : List ℕ). paste o 0 l (length l)) (tail 22 b))
 
 pub vp8-state-read-spec : {M : Type 1} → statement M

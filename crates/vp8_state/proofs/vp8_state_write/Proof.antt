@@ -22,7 +22,8 @@ faultless-requires c κs = search needs
 
 returns-3 : tie.Need-returns-3
 returns-3 c =
-    faulty _ _ (c .before .before .before .if1 .left) (c .before .before .if2 .left) (sym (c .before .faultless .ensures) ∙ not-true _ (c .if3 .taken))
+    let e = c .before .before in
+    faulty _ _ (e .before .if1 .left) (e .if2 .left) (sym (c .before .faultless .ensures) ∙ not-true _ (c .if3 .taken))
 
 slice-aggregate-put : tie.Need-slice-aggregate-put
 slice-aggregate-put c = search needs
@@ -39,11 +40,14 @@ same-length c = search needs
 returns-4 : tie.Need-returns-4
 unfolding heading
 returns-4 c =
-    let start = c .before .before .before .before .before .before .before .before .before .before .before .before .before .before .before in
+    let d = c .before .before .before .before .before .before in
+    let e = d .before .before .before in
+    let start = e .before .before .before .before .before .before in
     let s = start .args .bytes .now in
-    stored s (start .args .block .now) (c .before .before .before .before .before .before .before .before .before .before .before .before .if1 .left) (c .before .before .before .before .before .before .before .before .before .before .before .if2 .left) (c .before .before .before .before .before .before .before .before .before .before .before .before .before .before .shared-slice-known .given)
-    (sym (c .before .before .before .before .before .before .before .before .before .before .faultless .ensures) ∙ not-false _ (c .before .before .before .before .before .before .before .before .before .if3 .left))
-    (c .before .before .put2 .ensures ∙ ap (λ (l : List ℕ). paste l 22 s (length s)) (c .before .before .before .before .before .before .put .ensures))
+    stored s (start .args .block .now) (e .before .before .before .if1 .left) (e .before .before .if2 .left)
+    (e .before .before .before .before .before .shared-slice-known .given)
+    (sym (e .before .faultless .ensures) ∙ not-false _ (e .if3 .left))
+    (c .before .before .put2 .ensures ∙ ap (λ (l : List ℕ). paste l 22 s (length s)) (d .put .ensures))
 
 pub vp8-state-write-spec : {M : Type 1} → statement M
 vp8-state-write-spec =

@@ -21,9 +21,11 @@ faultless-requires c κs = search needs
 
 returns-2 : tie.Need-returns-2
 returns-2 c =
-    let first = c .before .before .before .front in
+    let e = c .before .before .before in
+    let first = e .front in
     let n : length (first .result) ≡ 25 = search needs in
-    refused-fault (c .before .before .before .before .before .before .before .before .args .parser) _ (first .result) (first .ensures) (c .before .before .before .before .before .before .if1 .left) n
+    refused-fault (e .before .before .before .before .before .args .parser) _ (first .result) (first .ensures)
+    (e .before .before .before .if1 .left) n
     (sym (c .before .faultless .ensures) ∙ not-true _ (c .if2 .taken))
 
 put-sections-requires : tie.Need-put-sections-requires
@@ -34,10 +36,13 @@ same-length c = search needs
 
 returns-3 : tie.Need-returns-3
 returns-3 c =
-    let first = c .before .before .before .before .before .before .before .before .before .before .front in
+    let d = c .before .before .before .before .before .before .before in
+    let e = d .before .before .before in
+    let first = e .front in
     let n : length (first .result) ≡ 25 = search needs in
-    was-written (c .before .before .before .before .before .before .before .before .before .before .before .before .before .before .before .args .parser) _ (first .result) (first .ensures) (c .before .before .before .before .before .before .before .before .before .before .before .before .before .if1 .left) n
-    (sym (c .before .before .before .before .before .before .before .before .faultless .ensures) ∙ not-false _ (c .before .before .before .before .before .before .before .if2 .left)) (c .before .before .put-sections .ensures)
+    was-written (e .before .before .before .before .before .args .parser) _ (first .result) (first .ensures)
+    (e .before .before .before .if1 .left) n
+    (sym (d .before .faultless .ensures) ∙ not-false _ (d .if2 .left)) (c .before .before .put-sections .ensures)
 
 pub write-block-spec : {M : Type 1} → statement M
 write-block-spec =

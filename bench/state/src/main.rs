@@ -4,7 +4,7 @@
 //! `standard` and `rust` run one side alone; `time` prints the nanoseconds a frame of each, and the number of rounds, each frame over the
 //! fresh record; `stack` prints the deepest stack of one of the port's calls.
 
-#[path = "../../../shared.rs"]
+#[path = "../../shared.rs"]
 mod shared;
 
 use reference::Parser;
@@ -27,15 +27,15 @@ pub extern "C" fn call_rattle(mode: u32, block: *mut u8, frame: *const u8, size:
 
 #[no_mangle]
 #[inline(never)]
-pub extern "C" fn call_rust(parser: *mut Parser, frame: *const u8, size: usize) -> u32 {
+pub extern "C" fn call_rust(parser: *mut Parser, frame: *const u8, size: usize) -> u64 {
     std::hint::black_box(reference::reference_state_frame(parser, frame, size))
 }
 
-fn rattle(mode: u32, block: &mut [u8; BLOCK], frame: &[u8]) -> u32 {
-    call_rattle(mode, block.as_mut_ptr(), frame.as_ptr(), frame.len())
+fn rattle(mode: u32, block: &mut [u8; BLOCK], frame: &[u8]) -> u64 {
+    call_rattle(mode, block.as_mut_ptr(), frame.as_ptr(), frame.len()) as u64
 }
 
-fn rust(parser: &mut Parser, frame: &[u8]) -> u32 {
+fn rust(parser: &mut Parser, frame: &[u8]) -> u64 {
     call_rust(parser, frame.as_ptr(), frame.len())
 }
 
@@ -55,11 +55,11 @@ fn depth(block: &mut [u8; BLOCK], frame: &[u8]) -> usize {
 }
 
 fn timed_rattle(frame: &[u8]) -> u64 {
-    rattle(0, &mut fresh(), frame) as u64
+    rattle(0, &mut fresh(), frame)
 }
 
 fn timed_rust(frame: &[u8]) -> u64 {
-    rust(&mut Parser::default(), frame) as u64
+    rust(&mut Parser::default(), frame)
 }
 
 fn main() {
@@ -77,9 +77,9 @@ fn main() {
             (block, parser, of) = (fresh(), Parser::default(), name);
         }
         match side.as_str() {
-            "rattle" => drop(rattle(0, &mut block, &frame)),
-            "standard" => drop(rattle(1, &mut block, &frame)),
-            "rust" => drop(rust(&mut parser, &frame)),
+            "rattle" => _ = rattle(0, &mut block, &frame),
+            "standard" => _ = rattle(1, &mut block, &frame),
+            "rust" => _ = rust(&mut parser, &frame),
             "stack" => deepest = deepest.max(depth(&mut block, &frame)),
             _ => {
                 let (a, b) = (rattle(0, &mut block, &frame), rust(&mut parser, &frame));
