@@ -1,4 +1,4 @@
-# What both benchmarks share; sourced by bench/decoder/run and bench/parse/run, which set `name` (theirs), `crate` and `given` (a file of
+# What the benchmarks share; sourced by bench/decoder/run, bench/parse/run and bench/state/run, which set `name` (theirs), `crate` and `given` (a file of
 # the Rust's that they need). It checks what is at hand, builds the port's library and the host, counts, times, and looks into the archive.
 #   SILLBROOK_RUST_SRC   the folder that holds the Rust's src/ (else ../shared/docs/src beside the repository)
 #   SILLBROOK_STREAMS    the folder of recordings (else ../shared/streams beside the repository)

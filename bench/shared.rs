@@ -1,4 +1,4 @@
-//! What both hosts share: the frames of the recordings, and the time that each side takes for all of them.
+//! What the hosts share: the frames of the recordings, and the time that each side takes for all of them.
 
 #[path = "../tests/oracle/src/ivf.rs"]
 mod ivf;

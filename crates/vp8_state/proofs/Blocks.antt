@@ -2,8 +2,9 @@
 -- cases on the tests.
 use Prim.Native.Nat.{ℕ, zero, suc, _+_, _*_, _<_}
 use native.Mathlib.Omega.{arith}
+use mathlib.Core.Logic.{_↔_}
 use mathlib.Core.Path.{_≡_, refl, ap, ap₂, sym, _∙_}
-use mathlib.Core.Bool.{Bool, true, false, false≢true}
+use mathlib.Core.Bool.{Bool, true, false, false≢true, true≢false}
 use mathlib.Core.List.{List, [], _∷_, _++_, map, append-nil}
 use borrow.Author.Tests.{eqb-true, eq-eqb}
 use lib.Dec.{eqb, lit<}
@@ -21,7 +22,7 @@ use Rattle.vp8_flat.specs.Bytes.{segmentationBytes, adjustmentBytes, flatModes,
 use Rattle.vp8_flat.proofs.Whole.{kept-is}
 use Rattle.vp8_state.specs.declared.Verdict.{Verdict}
 use Rattle.vp8_state.specs.declared.Verdict.the-variants.{Taken, OtherSize, OtherHeading, Fault}
-use Rattle.vp8_state.specs.Block.{heading, sections, recordBytes, block, agree, faultless, refusalOf, blockVerdict, writeVerdict}
+use Rattle.vp8_state.specs.Block.{heading, sections, recordBytes, block, agree, faultless, refusalOf, blockVerdict, writeVerdict, Causes}
 use Rattle.vp8_state.specs.Laid.{part}
 use Rattle.vp8_state.specs.Handed.{taken, left, recordOf, readBlock, writeBlock, stateRead, stateWrite}
 use Rattle.vp8_state.proofs.Laid.{Typed, sound-typed, part-is, record-size, record-back, both, Bytes, bytes-back, sound-laid}
@@ -68,6 +69,71 @@ begins (k ∷ ks) [] h = absurd (false≢true h)
 begins (k ∷ ks) (b ∷ bs) h =
     let t = both (eqb k b) (agree eqb ks bs) h in
     ap₂ {C = List ℕ} (λ x xs. x ∷ xs) (sym (eqb-true k b (t .0))) (begins ks bs (t .1))
+
+-- and those that begin with it agree
+agrees : (ks bs : List ℕ) → take (length ks) bs ≡ ks → agree eqb ks bs ≡ true
+unfolding agree
+agrees [] bs h = refl
+agrees (k ∷ ks) [] h = absurd (let z : _≡_ {A = ℕ} 0 1 = cc in omega arith)
+agrees (k ∷ ks) (b ∷ bs) h =
+    let e : b ≡ k = cc in
+    let es : take (length ks) bs ≡ ks = cc in
+    rw (eq-eqb k b (sym e)) (agrees ks bs es)
+
+-- the verdict by its tests, of which the first two decide L and H
+module _ (L H : Type 0) where
+  abbrev Told : Bool → Bool → Bool → ℕ → Type 0
+  Told x y z n = refusalOf (pick x (pick y (pick z Taken Fault) OtherHeading) OtherSize) ≡ n
+
+  told-13 : (x y z : Bool) → ((x ≡ true) ↔ L) → Told x y z 13 ↔ (L → ⊥)
+  told-13 false y z l = (λ e h. false≢true (l .1 h), λ n. refl)
+  told-13 true true true l = (λ e. absurd (omega (arith, e)), λ n. absurd (n (l .0 refl)))
+  told-13 true true false l = (λ e. absurd (omega (arith, e)), λ n. absurd (n (l .0 refl)))
+  told-13 true false z l = (λ e. absurd (omega (arith, e)), λ n. absurd (n (l .0 refl)))
+
+  told-14 : (x y z : Bool) → ((x ≡ true) ↔ L) → ((y ≡ true) ↔ H) → Told x y z 14 ↔ (L × (H → ⊥))
+  told-14 false y z l k = (λ e. absurd (omega (arith, e)), λ n. absurd (false≢true (l .1 (n .0))))
+  told-14 true true true l k = (λ e. absurd (omega (arith, e)), λ n. absurd (n .1 (k .0 refl)))
+  told-14 true true false l k = (λ e. absurd (omega (arith, e)), λ n. absurd (n .1 (k .0 refl)))
+  told-14 true false z l k = (λ e. (l .0 refl, λ h. false≢true (k .1 h)), λ n. refl)
+
+  told-15 : (x y z : Bool) → ((x ≡ true) ↔ L) → ((y ≡ true) ↔ H) → Told x y z 15 ↔ (L × H × (z ≡ false))
+  told-15 false y z l k = (λ e. absurd (omega (arith, e)), λ n. absurd (false≢true (l .1 (n .0))))
+  told-15 true true true l k = (λ e. absurd (omega (arith, e)), λ n. absurd (true≢false (n .2)))
+  told-15 true true false l k = (λ e. (l .0 refl, k .0 refl, refl), λ n. refl)
+  told-15 true false z l k = (λ e. absurd (omega (arith, e)), λ n. absurd (false≢true (k .1 (n .1))))
+
+  told-0 : (x y z : Bool) → ((x ≡ true) ↔ L) → ((y ≡ true) ↔ H) → Told x y z 0 ↔ (L × H × (z ≡ true))
+  told-0 false y z l k = (λ e. absurd (omega (arith, e)), λ n. absurd (false≢true (l .1 (n .0))))
+  told-0 true true true l k = (λ e. (l .0 refl, k .0 refl, refl), λ n. refl)
+  told-0 true true false l k = (λ e. absurd (omega (arith, e)), λ n. absurd (false≢true (n .2)))
+  told-0 true false z l k = (λ e. absurd (omega (arith, e)), λ n. absurd (false≢true (k .1 (n .1))))
+
+-- every refusal of a block has its one cause
+pub causes : (b : List ℕ) → Causes b
+unfolding blockVerdict heading
+causes b =
+    record {
+      thirteen = told-13 (length b ≡ 1148) (take 22 b ≡ heading) x y z size;
+      fourteen = told-14 (length b ≡ 1148) (take 22 b ≡ heading) x y z size head;
+      fifteen = told-15 (length b ≡ 1148) (take 22 b ≡ heading) x y z size head;
+      none = told-0 (length b ≡ 1148) (take 22 b ≡ heading) x y z size head;
+    }
+  where
+    x : Bool
+    x = eqb (length b) 1148
+
+    y : Bool
+    y = agree eqb heading b
+
+    z : Bool
+    z = faultless (drop 22 b)
+
+    size : (eqb (length b) 1148 ≡ true) ↔ (length b ≡ 1148)
+    size = (λ h. eqb-true (length b) 1148 h, λ h. eq-eqb (length b) 1148 h)
+
+    head : (agree eqb heading b ≡ true) ↔ (take 22 b ≡ heading)
+    head = (λ h. begins heading b h, λ h. agrees heading b h)
 
 -- of a block that is taken: its record has no fault, and its block is this one
 module _ (b : List ℕ) (bytes : Bytes b) (h : blockVerdict b ≡ Taken) where

@@ -104,6 +104,14 @@ exported-is p s e (other o {x = x} {r = r} g h n) =
     let t : ltb r 13 ≡ false = ap (λ (l : Left ℕ). ltb (l .answer) 13) (h ∙ parse-refused o x g) ∙ no-call (blockVerdict o) g in
     (rw t (ih .0), rw t (ih .1))
 
+-- to every list of them there are answers
+pub exported-runs : (b : List ℕ) (xs : List Offer) → (rs : List ℕ) × (d : List ℕ) × Exported b xs rs d
+exported-runs b [] = ([], b, stop)
+exported-runs b (x ∷ xs) =
+    let l = stateParse b x in
+    let n = exported-runs (l .buffer) xs in
+    (l .answer ∷ n .0, n .1, own refl (n .2))
+
 -- over a block that is refused nothing is a call, and it stays as it is
 pub exported-none : {b d : List ℕ} {xs : List Offer} {rs : List ℕ} → (blockVerdict b ≡ Taken → ⊥) → Exported b xs rs d
     → (d ≡ b) × (theCalls xs rs ≡ [])

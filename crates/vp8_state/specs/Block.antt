@@ -1,11 +1,13 @@
 -- The parser record as a block of bytes (docs/RULES.md, the block): the definition, from a record to its bytes, and when bytes are
 -- refused as a block, or as a record to be written into one.
 use Prim.Native.Nat.{ℕ, zero, suc, _/_, _%_}
+use mathlib.Core.Logic.{_↔_}
+use mathlib.Core.Path.{_≡_}
 use mathlib.Core.Bool.{Bool, true, false, _&&_}
 use mathlib.Core.List.{List, [], _∷_, _++_}
 use lib.Dec.{leb, ltb, eqb}
 use lib.IntN.{natAbs}
-use lib.ListN.{length, drop}
+use lib.ListN.{length, take, drop}
 use mir.Val.{toZ}
 use mir.Syntax.{w8}
 use Rattle.vp8_records.specs.declared.Parser.{Parser}
@@ -82,3 +84,10 @@ writeVerdict s b = pick (eqb (length b) 1148) (pick (faultless s) Taken Fault) O
 -- where a flat record is lent or given too: 13 also where it has another size than 1,126 bytes
 abbrev pub flat : List ℕ → Verdict → Verdict
 flat s v = pick (eqb (length s) 1126) v OtherSize
+
+-- each refusal of a block exactly when, and when there is none
+pub record Causes (b : List ℕ) : Type 0 where
+  pub thirteen : (refusalOf (blockVerdict b) ≡ 13) ↔ (length b ≡ 1148 → ⊥)
+  pub fourteen : (refusalOf (blockVerdict b) ≡ 14) ↔ ((length b ≡ 1148) × (take 22 b ≡ heading → ⊥))
+  pub fifteen : (refusalOf (blockVerdict b) ≡ 15) ↔ ((length b ≡ 1148) × (take 22 b ≡ heading) × (faultless (drop 22 b) ≡ false))
+  pub none : (refusalOf (blockVerdict b) ≡ 0) ↔ ((length b ≡ 1148) × (take 22 b ≡ heading) × (faultless (drop 22 b) ≡ true))
