@@ -22,7 +22,8 @@ use Rattle.vp8_flat.specs.Bytes.{segmentationBytes, adjustmentBytes, flatModes,
 use Rattle.vp8_flat.proofs.Whole.{kept-is}
 use Rattle.vp8_state.specs.declared.Verdict.{Verdict}
 use Rattle.vp8_state.specs.declared.Verdict.the-variants.{Taken, OtherSize, OtherHeading, Fault}
-use Rattle.vp8_state.specs.Block.{heading, sections, recordBytes, block, agree, faultless, refusalOf, blockVerdict, writeVerdict, Causes}
+use Rattle.vp8_state.specs.Block.{heading, sections, recordBytes, block, agree, faultless}
+use Rattle.vp8_state.specs.Block.{refusalOf, blockVerdict, writeVerdict, Causes}
 use Rattle.vp8_state.specs.Laid.{part}
 use Rattle.vp8_state.specs.Handed.{taken, left, recordOf, readBlock, writeBlock, stateRead, stateWrite}
 use Rattle.vp8_state.proofs.Laid.{Typed, sound-typed, part-is, record-size, record-back, both, Bytes, bytes-back, sound-laid}
