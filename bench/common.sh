@@ -1,5 +1,5 @@
-# What the benchmarks share; sourced by bench/decoder/run, bench/parse/run and bench/state/run, which set `name` (theirs), `crate` and `given` (a file of
-# the Rust's that they need). It checks what is at hand, builds the port's library and the host, counts, times, and looks into the archive.
+# What the benchmarks share; sourced by bench/decoder/run, bench/parse/run and bench/state/run, which set `name` (theirs), `crate` and
+# `given` (a file of the Rust's that they need). It checks what is at hand, builds the port's library and the host, counts, times, and looks into the archive.
 #   SILLBROOK_RUST_SRC   the folder that holds the Rust's src/ (else ../shared/docs/src beside the repository)
 #   SILLBROOK_STREAMS    the folder of recordings (else ../shared/streams beside the repository)
 #   SILLBROOK_COUNTER    callgrind or emulator; where not set, callgrind on x86-64 with valgrind, else the emulator

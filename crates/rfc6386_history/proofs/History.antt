@@ -19,6 +19,17 @@ use Rattle.rfc6386_history.proofs.Runs.{or-last}
 use Rattle.rfc6386_history.proofs.Writes.{sized-fresh}
 use Rattle.rfc6386_history.proofs.Step.{forgets, sized-call, writes-one}
 
+-- calls in a row
+pub after-append : (p : Parser) (xs ys : List Asked) → after p (xs ++ ys) ≡ after (after p xs) ys
+unfolding after
+after-append p [] ys = refl
+after-append p (x ∷ xs) ys = after-append (called p x .parser) xs ys
+
+pub calls-append : (p : Parser) (xs ys : List Asked) → calls p (xs ++ ys) ≡ calls p xs ++ calls (after p xs) ys
+unfolding calls after
+calls-append p [] ys = refl
+calls-append p (x ∷ xs) ys = ap (λ (l : List Parsed). called p x ∷ l) (calls-append (called p x .parser) xs ys)
+
 -- from a cutter on, all answers and states are those of a fresh parser
 pub cut-off : (p : Parser) (xs : List Asked) (k : Asked) (ys : List Asked) → cutter (k .frame) ≡ true
     → calls p (xs ++ k ∷ ys) ≡ calls p xs ++ calls fresh (k ∷ ys)

@@ -39,7 +39,7 @@ same-groups {A} (x ∷ xs) (y ∷ ys) h e =
     let rest : all xs ≡ all ys = sym (drop-at x (all xs) _ n) ∙ ap (λ (l : List A). drop (length y) l) e ∙ drop-at y (all ys) _ refl in
     ap₂ {C = List (List A)} (λ a b. a ∷ b) first (same-groups xs ys ns rest)
 
-length-all : {A : Type 0} (xs : List (List A)) → length (all xs) ≡ sum (map length xs)
+pub length-all : {A : Type 0} (xs : List (List A)) → length (all xs) ≡ sum (map length xs)
 unfolding joined sum
 length-all [] = refl
 length-all (x ∷ xs) = length-append x (all xs) ∙ ap (λ (n : ℕ). length x + n) (length-all xs)

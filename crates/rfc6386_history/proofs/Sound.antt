@@ -1,5 +1,5 @@
--- A call on a record without fault leaves one without fault: what a header writes is bounded by its widths (`header-bounded`), and a reset
--- and a clearing write zeros.
+-- A call on a record without fault leaves one without fault: what a header writes is bounded by its widths (`header-bounded`), a reset
+-- writes zeros, and a clearing none of these numbers.
 use mathlib.Core.Option.{Option, none, some}
 use mathlib.Core.List.{List, [], _∷_}
 use lib.Dec.{lit≤}

@@ -20,7 +20,7 @@ use Rattle.rfc6386_history.specs.Sound.{Sound}
 use Rattle.rfc6386_history.specs.History.{cutter, anyCutter, since, writes, last}
 use Rattle.rfc6386_history.specs.Answered.{Answered, ByValue}
 use Rattle.rfc6386_history.proofs.Sound.{sound-call, sound-after}
-use Rattle.rfc6386_history.proofs.History.{cut-off-after, last-writer-from}
+use Rattle.rfc6386_history.proofs.History.{after-append, calls-append, cut-off-after, last-writer-from}
 use Rattle.rfc6386_history.proofs.Answered.{parse-answers}
 use Rattle.vp8_state.specs.declared.Verdict.{Verdict}
 use Rattle.vp8_state.specs.declared.Verdict.the-variants.{Taken, OtherSize, OtherHeading, Fault}
@@ -153,11 +153,6 @@ exported-then stop n = n
 exported-then (own h m) n = own h (exported-then m n)
 exported-then (other o g h m) n = other o g h (exported-then m n)
 
-after-then : (p : Parser) (xs ys : List Asked) → after p (xs ++ ys) ≡ after (after p xs) ys
-unfolding after
-after-then p [] ys = refl
-after-then p (x ∷ xs) ys = after-then (called p x .parser) xs ys
-
 -- one process whose calls are those of A and then those of B ends with B's block
 pub exported-over : (p : Parser) {c d e : List ℕ} {xs ys zs : List Offer} {rs ss ts : List ℕ} → Sound p
     → Exported (block p) xs rs c → Exported c ys ss d → Exported (block p) zs ts e → theCalls zs ts ≡ theCalls xs rs ++ theCalls ys ss
@@ -167,13 +162,8 @@ exported-over p {xs = xs} {ys} {zs} {rs} {ss} {ts} s a b o h =
     let y = theCalls ys ss in
     let k = exported-is p s refl a .0 in
     exported-is p s refl o .0
-    ∙ ap (λ (l : List Asked). block (after p l)) h ∙ ap block (after-then p x y)
+    ∙ ap (λ (l : List Asked). block (after p l)) h ∙ ap block (after-append p x y)
     ∙ sym (exported-is (after p x) (sound-after p x s) k b .0)
-
-calls-then : (p : Parser) (xs ys : List Asked) → calls p (xs ++ ys) ≡ calls p xs ++ calls (after p xs) ys
-unfolding calls after
-calls-then p [] ys = refl
-calls-then p (x ∷ xs) ys = ap (λ (l : List Parsed). called p x ∷ l) (calls-then (called p x .parser) xs ys)
 
 -- the same of records: A calls `parse` on xs and writes its record q into a block; B reads that and calls `parse` on ys. No step is
 -- refused, and the answers and the record are those of one process that is asked xs and then ys
@@ -193,7 +183,7 @@ handed-over p {q} {xs = xs} {ys} {rs} {ss} {ts} b d v a z one n w r two all =
     let g = parse-answers all in (
       ap (λ (l : Left Verdict). l .answer) k,
       ap (λ (y : ReadAnswer). y .verdict) read,
-      g .1 ∙ after-then p xs ys ∙ ap (λ (y : Parser). after y ys) (sym back) ∙ sym (f .1),
-      g .0 ∙ calls-then p xs ys
+      g .1 ∙ after-append p xs ys ∙ ap (λ (y : Parser). after y ys) (sym back) ∙ sym (f .1),
+      g .0 ∙ calls-append p xs ys
           ∙ ap₂ {C = List Parsed} (λ x y. x ++ y) (sym (e .0)) (ap (λ (y : Parser). calls y ys) (sym back) ∙ sym (f .0)),
     )

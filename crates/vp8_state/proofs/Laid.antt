@@ -9,7 +9,7 @@ use mathlib.Core.List.{List, [], _∷_, _++_, map, append-assoc, append-nil}
 use borrow.Author.Tests.{ltb-true, leb-true}
 use lib.Dec.{eqb, ltb, lit<, lit≤}
 use lib.IntN.{ℤ, pos, negsuc}
-use lib.ListN.{length, getD, take, drop, length-append, length-drop, length-map, take-append-drop}
+use lib.ListN.{length, getD, take, drop, length-drop, length-map, take-append-drop}
 use lib.Seq.{take-all, take-at, drop-at, drop-length, drop-drop, drop-cons, getD-take, getD-drop, length-take-le}
 use mir.Syntax.{w8}
 use mir.Val.{Fits, SFits, toZ, ofZ}
@@ -23,6 +23,7 @@ use Rattle.rfc6386.specs.Frame.{sum}
 use Rattle.rfc6386.specs.Holds.{Within}
 use Rattle.rfc6386_history.specs.Kept.{all}
 use Rattle.rfc6386_history.specs.Sound.{Sound}
+use Rattle.rfc6386_history.proofs.Numbers.{length-all}
 use Rattle.vp8_flat.specs.Bytes.{bitOf}
 use Rattle.vp8_state.specs.Block.{recordBytes, agree, allows, kinds, faultless}
 use Rattle.vp8_state.specs.Laid.{part, flagAt, signedAt, parserOf}
@@ -97,11 +98,6 @@ sizes-are p s =
     ∷ s .luma i
     ∷ s .chroma i
     ∷ []
-
-length-all : (gs : List (List ℕ)) → length (all gs) ≡ sum (map length gs)
-unfolding joined sum
-length-all [] = refl
-length-all (g ∷ gs) = length-append g (all gs) ∙ ap (λ (n : ℕ). length g + n) (length-all gs)
 
 pub record-size : (p : Parser) → Sized p → length (recordBytes p) ≡ 1126
 unfolding sum

@@ -1,10 +1,10 @@
 -- Runs put into a buffer one after another, from its beginning on: each put lengthens what the buffer begins with, and a run as long as the
 -- buffer is what it holds.
-use Prim.Native.Nat.{ℕ, _+_, _-_, _≤_}
+use Prim.Native.Nat.{ℕ, _+_, _≤_}
 use native.Mathlib.Omega.{arith}
 use mathlib.Core.Path.{_≡_, refl, ap, ap₂, sym, _∙_}
 use mathlib.Core.List.{List, [], _++_}
-use lib.ListN.{length, take, drop, length-append, length-drop}
+use lib.ListN.{length, take, drop, length-append}
 use lib.Seq.{paste, length-paste, take-at, take-length, take-all}
 
 pub record Begins (n : ℕ) (xs b : List ℕ) : Type 0 where
@@ -44,7 +44,3 @@ five b h s u v w n hn sn un vn wn =
     let c = more (h ++ s) u 47 b (sym two) (omega arith) refl in
     let d = more (h ++ s ++ u) v 1103 c (sym three) (omega arith) refl in
     whole (more (h ++ s ++ u ++ v) w 1141 d (sym four) (omega arith) refl) all
-
--- a part that goes to the end
-pub tail : (at : ℕ) (b : List ℕ) → take (length b - at) (drop at b) ≡ drop at b
-tail at b = take-all (length b - at) (drop at b) (omega (arith, length-drop at b))

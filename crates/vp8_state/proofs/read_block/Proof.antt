@@ -3,13 +3,13 @@ use native.Mathlib.Omega.{arith}
 use mathlib.Core.Path.{_≡_, ap, sym, _∙_}
 use lib.ListN.{length, length-drop}
 use borrow.Author.Needs.{needs}
+use borrow.Rule.Slice.PartAt.{part-to-end}
 use Rattle.vp8_records.specs.Start.{fresh}
 use Rattle.vp8_state.specs.declared.Verdict.{Verdict}
 use Rattle.vp8_state.specs.declared.Verdict.the-variants.{Taken}
 use Rattle.vp8_state.specs.Block.{refusalOf, blockVerdict}
 use Rattle.vp8_state.specs.Laid.{parserOf}
 use Rattle.vp8_state.specs.Handed.{taken, recordOf, readBlock}
-use Rattle.vp8_state.proofs.Pastes.{tail}
 use Rattle.vp8_state.proofs.Blocks.{by-number, not-taken, is-block}
 use Rattle.vp8_state.proofs.read_block.Statement.{statement}
 use Rattle.vp8_state.proofs.read_block.Tie as tie
@@ -54,7 +54,7 @@ part-parser-of-end c = search needs
 parser-of-requires : tie.Need-parser-of-requires
 parser-of-requires c κs =
     let b = c .before .before .before .before .before .args .block .now in
-    ap length (tail 22 b) ∙ length-drop 22 b ∙ omega (arith, size (c .before))
+    ap length (part-to-end b 22) ∙ length-drop 22 b ∙ omega (arith, size (c .before))
 
 returns-2 : tie.Need-returns-2
 unfolding readBlock
@@ -63,7 +63,7 @@ returns-2 c =
     let b = e .before .before .args .block .now in
     let v = e .block-verdict .ensures in
     let t = ap (λ (x : Verdict). taken x (recordOf b) fresh) (is (c .before .before)) in
-    let r : c .parser-of .result ≡ taken (blockVerdict b) (recordOf b) fresh = c .parser-of .ensures ∙ ap parserOf (tail 22 b) ∙ sym t in
+    let r : c .parser-of .result ≡ taken (blockVerdict b) (recordOf b) fresh = c .parser-of .ensures ∙ ap parserOf (part-to-end b 22) ∙ sym t in
     λ i. record { verdict = v i; parser = r i }
 
 pub read-block-spec : {M : Type 1} → statement M

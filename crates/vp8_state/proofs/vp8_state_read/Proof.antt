@@ -6,10 +6,10 @@ use mathlib.Core.List.{List}
 use lib.ListN.{length, length-drop}
 use lib.Seq.{paste}
 use borrow.Author.Needs.{needs}
+use borrow.Rule.Slice.PartAt.{part-to-end}
 use Rattle.vp8_state.specs.declared.Verdict.the-variants.{Taken}
 use Rattle.vp8_state.specs.Block.{refusalOf, blockVerdict}
 use Rattle.vp8_state.specs.Handed.{left}
-use Rattle.vp8_state.proofs.Pastes.{tail}
 use Rattle.vp8_state.proofs.Blocks.{by-number, is-block}
 use Rattle.vp8_state.proofs.Stores.{other-buffer, not-read, was-read}
 use Rattle.vp8_state.proofs.vp8_state_read.Statement.{statement}
@@ -52,7 +52,7 @@ part-put-end c = search needs
 put-requires : tie.Need-put-requires
 put-requires c κs =
     let b = c .before .before .before .before .before .before .before .before .args .block .now in
-    omega (arith, ap length (tail 22 b), length-drop 22 b, size (c .before .before), c .before .before .before .before .before .if1 .left)
+    omega (arith, ap length (part-to-end b 22), length-drop 22 b, size (c .before .before), c .before .before .before .before .before .if1 .left)
 
 same-length : tie.Need-same-length
 same-length c = search needs
@@ -64,7 +64,7 @@ returns-3 c =
     let b = a .block .now in
     let o = a .bytes .now in
     was-read b o (e .before .before .before .if1 .left) (e .before .before .before .before .before .shared-slice-known .given) (is e)
-    (c .before .before .put .ensures ∙ ap (λ (l : List ℕ). paste o 0 l (length l)) (tail 22 b))
+    (c .before .before .put .ensures ∙ ap (λ (l : List ℕ). paste o 0 l (length l)) (part-to-end b 22))
 
 pub vp8-state-read-spec : {M : Type 1} → statement M
 vp8-state-read-spec =
