@@ -14,3 +14,4 @@ pub mod Literal
 pub mod Limits
 pub mod Same
 pub mod Sequence
+pub mod Split

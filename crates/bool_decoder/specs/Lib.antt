@@ -6,3 +6,4 @@ pub mod Model
 pub mod Answer
 pub mod InPlace
 pub mod Quiet
+pub mod Split

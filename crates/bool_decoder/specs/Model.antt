@@ -3,7 +3,7 @@ use Prim.Native.Nat.{ℕ}
 use mathlib.Core.Path.{_≡_}
 use mathlib.Core.List.{List}
 use lib.IntN.{ℤ}
-use Rattle.rfc6386.specs.Decoder.{bits, State, Out, whole, countOf}
+use Rattle.rfc6386.specs.Decoder.{bits, State, Out, whole, countOf, position}
 use Rattle.rfc6386.specs.Reads.{Rd}
 use Rattle.bool_decoder.specs.Window.{stateOf, Over}
 use Rattle.bool_decoder.specs.Engine as By
@@ -42,3 +42,10 @@ pub record Seen (area : List ℕ) (d : BoolDecoder) (r : BoolDecoderState) : Typ
   pub range : r .range ≡ d .range
   pub value : r .value ≡ whole (bits area) (stateOf area d)
   pub count : r .count ≡ countOf (stateOf area d)
+
+-- what `pos`, `past`, `snapshot` and `bools` answer of d
+pub record Shows (area : List ℕ) (d : BoolDecoder) (at q : ℕ) (r : BoolDecoderState) (n : ℕ) : Type 0 where
+  pub place : at ≡ position (bits area) (stateOf area d)
+  pub past-end : q ≡ pastOf area d
+  pub seen : Seen area d r
+  pub bools : n ≡ By.boolsOf window area d

@@ -3,9 +3,9 @@ use Prim.Native.Nat.{ℕ}
 use mathlib.Core.Path.{_≡_}
 use mathlib.Core.List.{List, [], _∷_}
 use Rattle.rfc6386.specs.Decoder.{State, bits, whole, countOf, position, past}
-use Rattle.bool_decoder.specs.Engine.{Engine, boolsOf}
-use Rattle.bool_decoder.specs.Model.{window, Seen, pastOf}
-use Rattle.bool_decoder.specs.Window.{stateOf}
+use Rattle.bool_decoder.specs.Engine.{Engine}
+use Rattle.bool_decoder.specs.Model.{pastOf}
+use Rattle.bool_decoder.specs.Model as Window
 use Rattle.bool_decoder.specs.Answer.{BoolMeets, UintMeets, SintMeets}
 use Rattle.bool_decoder.specs.declared.BoolDecoder.{BoolDecoder}
 use Rattle.bool_decoder.specs.declared.BoolRead.{BoolRead}
@@ -53,11 +53,9 @@ pub data Answers (area : List ℕ) (d : BoolDecoder) : Ask → Value → ℕ →
   no-sign : (w : ℕ) {n : ℕ} → SintMeets area d w (S.Refused n) → Answers area d (askSigned w) (Refused n) (pastOf area d) d
 
 -- what the window shows, by the contracts of `pos`, `past`, `snapshot` and `bools`
-pub record Shows (area : List ℕ) (d : BoolDecoder) (s : Shown) : Type 0 where
-  pub place : s .position ≡ position (bits area) (stateOf area d)
-  pub past-end : s .past ≡ pastOf area d
-  pub seen : Seen area d (record { range = s .range; value = s .value; count = s .count })
-  pub bools : s .bools ≡ boolsOf window area d
+abbrev pub Shows : List ℕ → BoolDecoder → Shown → Type 0
+Shows area d s =
+    Window.Shows area d (s .position) (s .past) (record { range = s .range; value = s .value; count = s .count }) (s .bools)
 
 -- the window's, from its decoder d on
 pub data WindowTells (area : List ℕ) : BoolDecoder → List Ask → List Told → Type 0 where

@@ -68,7 +68,7 @@ unfolding litFrom
 a-litFrom zero x = none x
 a-litFrom (suc w) x = wider (omega arith) (omega arith) (both _ a-flag (λ b. a-litFrom w _))
 
-a-lit : (w : ℕ) → Counted (lit w) w w
+pub a-lit : (w : ℕ) → Counted (lit w) w w
 unfolding lit
 a-lit w = a-litFrom w 0
 

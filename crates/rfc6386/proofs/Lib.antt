@@ -10,3 +10,5 @@ pub mod Bounds
 pub mod Fills
 pub mod Covers
 pub mod Reach
+pub mod Limits
+pub mod Split

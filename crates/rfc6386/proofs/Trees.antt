@@ -6,7 +6,7 @@ use native.Mathlib.Omega.{arith}
 use mathlib.Core.Path.{_≡_, refl, ap, sym, _∙_, fun-ext}
 use mathlib.Core.Bool.{Bool, true, false}
 use Rattle.rfc6386.specs.Decoder.{State, readBool}
-use Rattle.rfc6386.specs.Reads.{Rd, ret, ask, _>>=_, run, flag, bit, litFrom, lit}
+use Rattle.rfc6386.specs.Reads.{Rd, ret, ask, _>>=_, run, bool, flag, bit, litFrom, lit}
 
 pub run-bind : {A B : Type 0} (m : Rd A) (f : A → Rd B) (l : ℕ) (s : State)
     → run (m >>= f) l s ≡ run (f (run m l s .got)) l (run m l s .then)
@@ -38,18 +38,37 @@ always-bind Q P m f h g l s = rw (run-bind m f l s) (g (run m l s .got) (h l s) 
 pub always-skip : {A B : Type 0} (P : B → Type 0) (m : Rd A) (f : A → Rd B) → ((a : A) → Always P (f a)) → Always P (m >>= f)
 always-skip P m f g = always-bind (λ a. Unit {0}) P m f (λ l s. tt) (λ a u. g a)
 
+-- P holds of every value that m can end with, whatever its bools are
+abbrev pub All : {A : Type 0} → (A → Type 0) → Rd A → Type 0
+All P (ret a) = P a
+All P (ask p k) = (b : Bool) → All P (k b)
+
+pub all-always : {A : Type 0} (P : A → Type 0) (m : Rd A) → All P m → Always P m
+unfolding run
+all-always P (ret a) h l s = h
+all-always P (ask p k) h l s = all-always P (k (readBool l p s .got)) (h (readBool l p s .got)) l (readBool l p s .then)
+
+-- what follows m matters only on such values
+pub onward-all : {A B : Type 0} (P : A → Type 0) (m : Rd A) {f g : A → Rd B} → All P m → ((a : A) → P a → f a ≡ g a) → m >>= f ≡ m >>= g
+unfolding _>>=_
+onward-all P (ret a) h e = e a h
+onward-all P (ask p k) h e = ap (ask p) (fun-ext (λ b. onward-all P (k b) (h b) e))
+
 bit-small : (x k : ℕ) (b : Bool) → x < 2 ^ k → x * 2 + bit b < 2 ^ suc k
 bit-small x k true h = rw pow-suc (omega arith)
 bit-small x k false h = rw pow-suc (omega arith)
 
 -- a literal of w bools after a number of k bits has k + w bits
-litFrom-small : (w x k : ℕ) → x < 2 ^ k → Always (λ y. y < 2 ^ (k + w)) (litFrom w x)
-unfolding litFrom
-litFrom-small zero x k h = always-ret (λ y. y < 2 ^ (k + 0)) x (rw add-zero h)
-litFrom-small (suc w) x k h =
+litFrom-all : (w x k : ℕ) → x < 2 ^ k → All (λ y. y < 2 ^ (k + w)) (litFrom w x)
+unfolding litFrom flag bool _>>=_
+litFrom-all zero x k h = rw add-zero h
+litFrom-all (suc w) x k h =
     let e : suc k + w ≡ k + suc w = suc-add k w ∙ sym (add-suc k w) in
-    always-skip (λ y. y < 2 ^ (k + suc w)) flag _ (λ b. rw e at (litFrom-small w (x * 2 + bit b) (suc k) (bit-small x k b h)))
+    λ b. rw e at (litFrom-all w (x * 2 + bit b) (suc k) (bit-small x k b h))
+
+pub lit-all : (w : ℕ) → All (λ y. y < 2 ^ w) (lit w)
+unfolding lit
+lit-all w = rw zero-add at (litFrom-all w 0 0 (omega arith))
 
 pub lit-small : (w : ℕ) → Always (λ y. y < 2 ^ w) (lit w)
-unfolding lit
-lit-small w = rw zero-add at (litFrom-small w 0 0 (omega arith))
+lit-small w = all-always (λ y. y < 2 ^ w) (lit w) (lit-all w)

@@ -17,4 +17,5 @@ pub mod Peek
 pub mod Fills
 pub mod Covers
 pub mod Reach
+pub mod Split
 pub mod Holds
