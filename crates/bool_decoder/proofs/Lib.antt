@@ -1,5 +1,5 @@
 -- Chain, Each, Made and Quiet are what callers build their proofs from; Sequence is the promise; Same says that no contract leaves a
--- choice.
+-- choice, and Split that a literal may be read in parts.
 pub mod Laws
 pub mod Stream
 pub mod Normal

@@ -20,9 +20,9 @@ use Rattle.rfc6386.proofs.Limits.{within}
 use Rattle.rfc6386.proofs.Split.{run-split, lit-bools, ways, ways-of, halfway}
 use Rattle.bool_decoder.specs.Engine.{Engine, boolsOf, out, Good, Ran, Lit}
 use Rattle.bool_decoder.specs.Window.{Over}
-use Rattle.bool_decoder.specs.Model.{window, Shows}
+use Rattle.bool_decoder.specs.Model.{window, Passed, Shows}
 use Rattle.bool_decoder.specs.Answer.{UintMeets}
-use Rattle.bool_decoder.specs.Split.{Parts, none, next, UintParts, ended, goes, stops, numberOf, wholeAnswer}
+use Rattle.bool_decoder.specs.Split.{Parts, none, next, UintParts, ended, goes, stops, refusedBy, wholeAnswer}
 use Rattle.bool_decoder.specs.declared.BoolDecoder.{BoolDecoder}
 use Rattle.bool_decoder.specs.declared.BoolDecoderState.{BoolDecoderState}
 use Rattle.bool_decoder.specs.declared.Uint.{Uint}
@@ -143,8 +143,8 @@ module _ {area : List ℕ} where
       refused zero e h = absurd (omega (arith, h))
       refused (suc k) e h = rw (← e)
 
-  -- what the whole is answered, by what its parts gave: refused by 7 where it has more than 31 bools and its area is not too large, and else
-  -- as the first of them that is refused, or read with all their values
+  -- what the whole is answered, by what its parts gave: refused by 7 where it has more than 31 bools and its area is not too large, else as
+  -- the first of them that is refused, or read with all their values
   pub uint-ways : {w : ℕ} {ws : List ℕ} {d : BoolDecoder} {vs : List ℕ} {n : ℕ} {e : BoolDecoder} (r : UintAnswer)
       → Over area d → UintMeets area d (sum (w ∷ ws)) r → UintParts area (w ∷ ws) d vs n e
       → r ≡ pick (ltb (length area) (2 ^ 28) && ltb 31 (sum (w ∷ ws))) (U.Refused 7) (wholeAnswer area (w ∷ ws) vs n e)
@@ -168,7 +168,12 @@ module _ {area : List ℕ} where
   uint-parts {w} {ws} r o h m ps = uint-ways r o m ps ∙ rw (le-ltb 31 (sum (w ∷ ws)) h, and-false)
 
 module _ {area : List ℕ} {a b : ℕ} {d : BoolDecoder} {p : UintRead} (first : UintMeets area d a (U.Read p)) where
-  -- two parts that are read: the whole is too, up to 31 bools
+  -- two parts that are read are a read of the whole
+  both : {q : UintRead} → UintMeets area (p .dec) b (U.Read q)
+      → Passed (lit (a + b)) area d (beside b (p .value) (q .value)) (q .past) (q .dec) (a + b)
+  both second = record { ran = whole-of-two (lit-of (first .read .ran)) (lit-of (second .read .ran)) .ran; past = second .read .past }
+
+  -- and up to 31 bools the whole is read then
   pub uint-split : {q : UintRead} (r : UintAnswer) → a + b ≤ 31 → UintMeets area d (a + b) r → UintMeets area (p .dec) b (U.Read q)
       → r ≡ U.Read (record { value = beside b (p .value) (q .value); past = q .past; dec = q .dec })
   uint-split r h m second =
@@ -176,18 +181,13 @@ module _ {area : List ℕ} {a b : ℕ} {d : BoolDecoder} {p : UintRead} (first :
       let number : litRefusal (length area) (a + b) (d .bools) ≡ 0 =
       ways (length area) a b (d .bools) (omega (arith, few))
       ∙ rw (le-ltb 31 (a + b) h, and-false, first .free, ← counts (lit-of (first .read .ran)), second .free) in
-      same-uint-answer area d (a + b) r _ m (record {
-        free = number;
-        read =
-            record { ran = whole-of-two (lit-of (first .read .ran)) (lit-of (second .read .ran)) .ran; past = second .read .past };
-      })
+      same-uint-answer area d (a + b) r _ m (record { free = number; read = both second })
 
   -- where neither way is refused, value, bits past the end and decoder are equal, and what the decoder shows
   pub uint-read : {r q : UintRead} → UintMeets area d (a + b) (U.Read r) → UintMeets area (p .dec) b (U.Read q)
       → r ≡ record { value = beside b (p .value) (q .value); past = q .past; dec = q .dec }
   uint-read whole second =
-      same-passed {S = UintRead} (λ v n e. record { value = v; past = n; dec = e }) (whole .read)
-      (record { ran = whole-of-two (lit-of (first .read .ran)) (lit-of (second .read .ran)) .ran; past = second .read .past })
+      same-passed {S = UintRead} (λ v n e. record { value = v; past = n; dec = e }) (whole .read) (both second)
 
   pub uint-shows : {r q : UintRead} {at x n at' x' n' : ℕ} {seen seen' : BoolDecoderState}
       → UintMeets area d (a + b) (U.Read r) → UintMeets area (p .dec) b (U.Read q)
@@ -196,9 +196,9 @@ module _ {area : List ℕ} {a b : ℕ} {d : BoolDecoder} {p : UintRead} (first :
   uint-shows whole second = shows-same (ap (λ (u : UintRead). u .dec) (uint-read whole second))
 
   -- exactly where the first part is read and the whole is refused
-  pub uint-halfway : (r : UintAnswer) → UintMeets area d (a + b) r → (0 < numberOf r) ↔ Halfway (length area) a b (d .bools)
+  pub uint-halfway : (r : UintAnswer) → UintMeets area d (a + b) r → (0 < refusedBy r) ↔ Halfway (length area) a b (d .bools)
   uint-halfway r m = rw (number r m) (halfway (length area) a b (d .bools) (first .free))
     where
-      number : (r : UintAnswer) → UintMeets area d (a + b) r → numberOf r ≡ litRefusal (length area) (a + b) (d .bools)
+      number : (r : UintAnswer) → UintMeets area d (a + b) r → refusedBy r ≡ litRefusal (length area) (a + b) (d .bools)
       number (U.Read r) m = sym (m .free)
       number (U.Refused n) m = m .is

@@ -17,17 +17,17 @@ pub data Parts (E : Engine) (area : List ℕ) : List ℕ → E .Dec → List ℕ
   next : {w : ℕ} {ws : List ℕ} {d d₁ d₂ : E .Dec} {v : ℕ} {vs : List ℕ}
       → Lit E area w d v d₁ → Parts E area ws d₁ vs d₂ → Parts E area (w ∷ ws) d (v ∷ vs) d₂
 
--- the same by `read_uint`, up to the first that is refused: the values read, that refusal's number or 0, and the decoder that the caller has
+-- the same by `read_uint`, up to the first that is refused: the values read, that refusal's number or 0, the decoder that the caller has
 pub data UintParts (area : List ℕ) : List ℕ → BoolDecoder → List ℕ → ℕ → BoolDecoder → Type 0 where
   ended : {d : BoolDecoder} → UintParts area [] d [] 0 d
   goes : {w : ℕ} {ws : List ℕ} {d : BoolDecoder} {r : UintRead} {vs : List ℕ} {n : ℕ} {e : BoolDecoder}
       → UintMeets area d w (U.Read r) → UintParts area ws (r .dec) vs n e → UintParts area (w ∷ ws) d (r .value ∷ vs) n e
   stops : {w : ℕ} {ws : List ℕ} {d : BoolDecoder} {n : ℕ} → UintMeets area d w (U.Refused n) → UintParts area (w ∷ ws) d [] n d
 
--- the number of a refusal, 0 for none
-abbrev pub numberOf : UintAnswer → ℕ
-numberOf (U.Read r) = 0
-numberOf (U.Refused n) = n
+-- the number by which a read is refused, 0 for none
+abbrev pub refusedBy : UintAnswer → ℕ
+refusedBy (U.Read r) = 0
+refusedBy (U.Refused n) = n
 
 -- what the whole is then answered
 abbrev pub wholeAnswer : List ℕ → List ℕ → List ℕ → ℕ → BoolDecoder → UintAnswer

@@ -1,5 +1,5 @@
 -- Literals in parts. The tree of a whole is that of its parts: by induction on the first part's width, and on the second's for what stands
--- above it; lists go by two at a time. Refusals go by the five ways in which the four tests of a read can end.
+-- above it; a list goes by its first part and the rest. Refusals go by cases on the tests of a read.
 use Prim.Native.Nat.{ℕ, zero, suc, _+_, _*_, _/_, _%_, _^_, _≤_, _<_}
 use native.Mathlib.Nat.{pow-suc, add-zero, zero-add, suc-add, mul-assoc, mul-comm, add-assoc, pos-of-ne-zero}
 use native.Mathlib.Omega.{arith}
@@ -91,7 +91,7 @@ lits-together (w ∷ ws) =
     ∙ sym (assoc (each lit ws) (λ vs. ret (y ∷ vs)) (λ vs. ret (together (w ∷ ws) vs))))
     ∙ sym (assoc (lit w) (λ y. each lit ws >>= (λ vs. ret (y ∷ vs))) (λ vs. ret (together (w ∷ ws) vs)))
 
--- and the whole's value is made of theirs
+-- and the whole's value tells theirs
 pub lits-parted : (ws : List ℕ) → each lit ws ≡ make (parted ws) (lit (sum ws))
 unfolding sum parted each make lit litFrom _>>=_
 lits-parted [] = refl
@@ -183,8 +183,9 @@ halfway size a b n first = (there, back)
         empties false ez e = absurd (true≢false (sym e))
     go false false true et ee eu h = full (ltb-true _ _ eu)
     go false false false et ee eu h =
-        let none = free size (a + b) (a + b) n (record { small = f .small; narrow = ltb-false _ _ et; some = ee; few = ltb-false _ _ eu }) in
-        absurd (omega (arith, none, h))
+        let g : Within size (a + b) (a + b) n =
+        record { small = f .small; narrow = ltb-false _ _ et; some = ee; few = ltb-false _ _ eu } in
+        absurd (omega (arith, free size (a + b) (a + b) n g, h))
 
     there : 0 < litRefusal size (a + b) n → Halfway size a b n
     there = go (ltb 31 (a + b)) (eqb size 0 && ltb 0 (a + b)) (ltb 16777216 (n + (a + b))) refl refl refl

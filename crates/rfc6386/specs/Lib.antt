@@ -4,8 +4,9 @@
 --      boolean decoder runs (Decoder), the coded fields, the decoder's snapshot and the partition sizes.
 --   2. What it says and the kept numbers make the answer: the outcome, the header and the new kept numbers (Call).
 -- Peek is what the first ten bytes tell, by the same reading of the chunk. Fills says what it means that the parts of a frame fill it,
--- Covers that macroblocks cover a picture, Reach what position and bits past the end tell of how far the decoder has gone, and Holds what
--- holds of every header whatever the bytes. The tables are vp8_probs' Tables; the records with their starting values are vp8_records'.
+-- Covers that macroblocks cover a picture, Reach what position and bits past the end tell of how far the decoder has gone, Holds what holds
+-- of every header whatever the bytes, and Split what a literal in parts is. The tables are vp8_probs' Tables; the records with their
+-- starting values are vp8_records'.
 pub mod Bytes
 pub mod Decoder
 pub mod Reads

@@ -21,7 +21,7 @@ unfoldable pub parted : List ℕ → ℕ → List ℕ
 parted [] v = []
 parted (w ∷ ws) v = v / 2 ^ sum ws ∷ parted ws (v % 2 ^ sum ws)
 
--- the refusal of a literal of w bools, after n of them; 0 for none
+-- the refusal of a literal of w bools where n were read before it; 0 for none
 abbrev pub litRefusal : ℕ → ℕ → ℕ → ℕ
 litRefusal size w n = refusalOf size w w n
 
@@ -35,11 +35,11 @@ unfoldable pub partsRefusal : ℕ → List ℕ → ℕ → ℕ
 partsRefusal size [] n = 0
 partsRefusal size (w ∷ ws) n = orNext (litRefusal size w n) (partsRefusal size ws (n + w))
 
--- where a whole of a + b bools is refused and its first part is not
+-- why a whole of a + b bools is refused where its first part is not
 pub data Halfway (size a b n : ℕ) : Type 0 where
   -- by the width limit
   wide : 31 < a + b → Halfway size a b n
-  -- a literal of no bools is read from an empty area
+  -- by the area, from which only a literal of no bools is read
   empty : size ≡ 0 → a ≡ 0 → 0 < b → Halfway size a b n
   -- by the limit of bools
   full : 16777216 < n + (a + b) → Halfway size a b n

@@ -1,4 +1,4 @@
--- Level and sharpness as one literal of nine bools: `regroup` at six and three. In the header's stage their two reads are one tree, by `assoc`.
+-- Level and sharpness as one literal of nine bools: `regroup` at six and three. In the header's stage the two are one tree, by `assoc`.
 use Prim.Native.Nat.{ℕ, _/_, _%_}
 use mathlib.Core.Path.{_≡_, _∙_}
 use mathlib.Core.Bool.{Bool, false}
