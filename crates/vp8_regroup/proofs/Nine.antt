@@ -43,15 +43,6 @@ first-by md key =
     onward flag (λ ft.
     assoc (lit 6) _ _ ∙ onward (lit 6) (λ ll. assoc (lit 3) _ _)))))
 
--- whatever the contracts let two reads answer, of six bools and of three, and `read_filter`: level, sharpness and decoder are equal
-pub two-are-one : {area : List ℕ} {d : BoolDecoder} {l s : Byte} {r : F.Filter}
-    → Lit area 6 d (l .value) (l .dec) → Lit area 3 (l .dec) (s .value) (s .dec) → Ran filter area d (filterOf r) (r .dec) 9
-    → record { level = l .value; sharpness = s .value; dec = s .dec } ≡ r
-unfolding filter
-two-are-one p q =
-    same-read {S = F.Filter} (λ c e. record { level = c .level; sharpness = c .sharpness; dec = e })
-    (then _ (p .ran) (then _ (q .ran) (done (q .ran .over))))
-
 -- no contract leaves a choice
 pub one-filter : {area : List ℕ} {d : BoolDecoder} {r q : F.Filter}
     → Ran filter area d (filterOf r) (r .dec) 9 → Ran filter area d (filterOf q) (q .dec) 9 → r ≡ q
@@ -60,3 +51,10 @@ one-filter = same-read {S = F.Filter} (λ c e. record { level = c .level; sharpn
 pub one-first : {m : Rd First} {area : List ℕ} {d : BoolDecoder} {r q : FirstRead}
     → Ran m area d (r .first) (r .dec) 111 → Ran m area d (q .first) (q .dec) 111 → r ≡ q
 one-first = same-read {S = FirstRead} (λ a e. record { first = a; dec = e })
+
+-- whatever the contracts let two reads answer, of six bools and of three, and `read_filter`: level, sharpness and decoder are equal
+pub two-are-one : {area : List ℕ} {d : BoolDecoder} {l s : Byte} {r : F.Filter}
+    → Lit area 6 d (l .value) (l .dec) → Lit area 3 (l .dec) (s .value) (s .dec) → Ran filter area d (filterOf r) (r .dec) 9
+    → record { level = l .value; sharpness = s .value; dec = s .dec } ≡ r
+unfolding filter
+two-are-one p q = one-filter (then _ (p .ran) (then _ (q .ran) (done (q .ran .over))))
