@@ -29,7 +29,7 @@ use Rattle.bool_decoder.specs.declared.Uint.{Uint}
 use Rattle.bool_decoder.specs.declared.UintRead.{UintRead}
 use Rattle.bool_decoder.specs.declared.UintAnswer.{UintAnswer}
 use Rattle.bool_decoder.specs.declared.UintAnswer.the-variants as U
-use Rattle.bool_decoder.proofs.Chain.{done, after, fewer}
+use Rattle.bool_decoder.proofs.Chain.{done}
 use Rattle.bool_decoder.proofs.Same.{same-literal, same-passed, same-uint-answer, same-position, same-past, same-seen}
 
 module _ {E : Engine} {area : List ℕ} where
@@ -77,13 +77,7 @@ module _ {E : Engine} {area : List ℕ} where
       let rest = ap (parted ws) (low v (sum ws) small) ∙ parts-of (p .ran .over) ps in
       λ i. top i ∷ rest i
 
-  -- where a + b bools may be read, a may, and b after them; and the other way round
-  pub room-first : (a b : ℕ) {d : E .Dec} → Good E area d (a + b) → Good E area d a
-  room-first a b g = fewer (omega arith) g
-
-  pub room-second : {a b : ℕ} {d d₁ : E .Dec} {y : ℕ} → Lit E area a d y d₁ → Good E area d (a + b) → Good E area d₁ b
-  room-second {b = b} p g = after b (p .ran) g
-
+  -- where there is room for a bools and then for b there is for a + b; the other way round by `fewer` and `after`
   pub room-whole : {a b : ℕ} {d d₁ : E .Dec} {y : ℕ} → E .Over area d → Lit E area a d y d₁ → Good E area d₁ b → Good E area d (a + b)
   room-whole o p g = record { over = o; room = omega (arith, counts p, g .room) }
 

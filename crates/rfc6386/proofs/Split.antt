@@ -73,7 +73,7 @@ regroup {A} a b k =
 -- a flag is a literal of one bool, and so a part as others are
 pub flag-lit : make bit flag ≡ lit 1
 unfolding make lit litFrom _>>=_
-flag-lit = onward flag (λ b. go b)
+flag-lit = onward flag go
   where
     go : (b : Bool) → ret (bit b) ≡ ret (0 * 2 + bit b)
     go true = refl

@@ -25,7 +25,7 @@ unfolding filter make
 nine = regroup 6 3 (λ ll sh. ret (record { level = ll; sharpness = sh }))
 
 -- the header's first stage with both as one read
-abbrev pub firstBy : Mode → Bool → Rd FirstCoded
+unfoldable pub firstBy : Mode → Bool → Rd FirstCoded
 firstBy md key = do
   cs ← when key flag false
   ct ← when key flag false
@@ -35,7 +35,7 @@ firstBy md key = do
   ret (record { colorSpace = cs; clamping = ct; segments = sg; filterType = ft; level = f .level; sharpness = f .sharpness })
 
 pub first-by : (md : Mode) (key : Bool) → firstBy md key ≡ first md key
-unfolding first filter _>>=_
+unfolding firstBy first filter _>>=_
 first-by md key =
     onward (when key flag false) (λ cs.
     onward (when key flag false) (λ ct.

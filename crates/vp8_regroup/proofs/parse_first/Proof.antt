@@ -4,7 +4,7 @@ use borrow.Author.Needs.{needs}
 use Rattle.bool_decoder.proofs.Chain.{then, done}
 use Rattle.bool_decoder.proofs.Made.{same, worth, makes, made}
 use Rattle.vp8_header.specs.Stages.{firstOf}
-use Rattle.vp8_regroup.proofs.Nine.{first-by}
+use Rattle.vp8_regroup.proofs.Nine.{firstBy, first-by}
 use Rattle.vp8_regroup.proofs.parse_first.Statement.{statement}
 use Rattle.vp8_regroup.proofs.parse_first.Tie as tie
 
@@ -24,7 +24,7 @@ read-filter-requires : tie.Need-read-filter-requires
 read-filter-requires c κs = search needs
 
 returns : tie.Need-returns
-unfolding firstOf
+unfolding firstOf firstBy
 returns c =
     let at-filter = c .before .before in
     let at-type = at-filter .before in
