@@ -1,4 +1,6 @@
 // What bench/decoder measures: the coefficient update flags of a header, read from an area's start. It is exported for a host program.
+#![tactic(auto)]
+
 ghost use Rattle.std.specs.Prelude.{◌≡◌};
 ghost use Rattle.vp8_probs.specs.Tables.{coeff_update};
 ghost use Rattle.bench_decoder.specs.Flags.{marked, sum_of};

@@ -1,4 +1,6 @@
 // What bench/parse measures: a frame parsed by a fresh parser, in a mode by its number. It is exported for a host program.
+#![tactic(auto)]
+
 ghost use Rattle.std.specs.Prelude.{◌≡◌, map, take};
 ghost use Rattle.std.proofs.Common.{of_z};
 ghost use Rattle.std.specs.Int.{w8};

@@ -1,4 +1,6 @@
 // The sum that a benchmark makes of what was read, so that its two sides can be held against each other.
+#![tactic(auto)]
+
 ghost use Rattle.std.specs.Prelude.{◌≡◌};
 ghost use Rattle.bench_sum.specs.Sum.{folded, folds};
 

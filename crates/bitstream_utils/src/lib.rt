@@ -1,5 +1,7 @@
 // Plain bytes of a slice, as bitstream_utils.rs reads them: little-endian numbers, the least significant byte first.
 // Every function answers at every place: a byte past the end counts as 0.
+#![tactic(auto)]
+
 ghost use Rattle.std.specs.Prelude.{◌≡◌, get_or};
 ghost use Rattle.rfc6386.specs.Bytes.{le2, le3, le4};
 

@@ -2,6 +2,8 @@
 // It goes by value, and the area is passed along with it.
 // Inner reads ask for a decoder over the area with room for the bools; the public ones test the limits first, and refuse. Their answers
 // carry the bits past the end too.
+#![tactic(auto)]
+
 ghost use Rattle.std.specs.Prelude.{◌≡◌, ◌&&◌, ◌+◌, ◌-◌, ◌*◌, ◌^◌, ◌<◌, ◌≤◌};
 ghost use Rattle.rfc6386.specs.Decoder.{bits, split, pick, refusal_of, position, past};
 ghost use Rattle.rfc6386.specs.Reads.{bool, flag, bit, signed};
@@ -16,7 +18,7 @@ pub mod reads;
 pub mod zeros;
 
 // The state of RFC 6386 section 7.2 over an area. No other crate names its fields.
-#[derive(Drop)]
+#[derive(Clone, Copy)]
 pub struct BoolDecoder {
     // R, from 128 to 255 between reads.
     range: u32,
@@ -31,28 +33,28 @@ pub struct BoolDecoder {
 }
 
 // A bool, and the decoder after it.
-#[derive(Drop)]
+#[derive(Clone, Copy)]
 pub struct Bit {
     pub bit: bool,
     pub dec: BoolDecoder,
 }
 
 // A literal, and the decoder after it.
-#[derive(Drop)]
+#[derive(Clone, Copy)]
 pub struct Uint {
     pub value: u32,
     pub dec: BoolDecoder,
 }
 
 // A signed literal, and the decoder after it.
-#[derive(Drop)]
+#[derive(Clone, Copy)]
 pub struct Sint {
     pub value: i32,
     pub dec: BoolDecoder,
 }
 
 // A capture of the decoder's state, for the next decoding step.
-#[derive(Drop)]
+#[derive(Clone, Copy)]
 pub struct BoolDecoderState {
     // R.
     pub range: u8,
@@ -63,7 +65,7 @@ pub struct BoolDecoderState {
 }
 
 // A bool of the bare decoder.
-#[derive(Drop)]
+#[derive(Clone, Copy)]
 pub struct BoolRead {
     // What was read.
     pub bit: bool,
@@ -74,7 +76,7 @@ pub struct BoolRead {
 }
 
 // A literal of the bare decoder.
-#[derive(Drop)]
+#[derive(Clone, Copy)]
 pub struct UintRead {
     // What was read.
     pub value: u32,
@@ -85,7 +87,7 @@ pub struct UintRead {
 }
 
 // A signed literal of the bare decoder.
-#[derive(Drop)]
+#[derive(Clone, Copy)]
 pub struct SintRead {
     // What was read.
     pub value: i32,
@@ -96,21 +98,21 @@ pub struct SintRead {
 }
 
 // What the bare decoder answers of a bool: it, or the number of its refusal.
-#[derive(Drop)]
+#[derive(Clone, Copy)]
 pub enum BoolAnswer {
     Read(BoolRead),
     Refused(u32),
 }
 
 // The same of a literal.
-#[derive(Drop)]
+#[derive(Clone, Copy)]
 pub enum UintAnswer {
     Read(UintRead),
     Refused(u32),
 }
 
 // The same of a signed literal.
-#[derive(Drop)]
+#[derive(Clone, Copy)]
 pub enum SintAnswer {
     Read(SintRead),
     Refused(u32),

@@ -8,14 +8,14 @@ ghost use Rattle.bool_decoder.specs.Model.{Good, Ran, Lit};
 use crate::{Bit, BoolDecoder};
 
 // A literal of at most 8 bools, and the decoder after it.
-#[derive(Drop)]
+#[derive(Clone, Copy)]
 pub struct Byte {
     pub value: u8,
     pub dec: BoolDecoder,
 }
 
 // A signed literal whose magnitude has at most 7 bools, and the decoder after it.
-#[derive(Drop)]
+#[derive(Clone, Copy)]
 pub struct Int {
     pub value: i8,
     pub dec: BoolDecoder,

@@ -6,7 +6,7 @@ ghost use Rattle.bool_decoder.specs.Quiet.{narrowed, Ahead, Passes, Finds};
 use crate::BoolDecoder;
 
 // An entry of the table, and the decoder there.
-#[derive(Drop)]
+#[derive(Clone, Copy)]
 pub struct Place {
     pub at: usize,
     pub dec: BoolDecoder,

@@ -1,6 +1,8 @@
 // Replays a stored list of scripts (tests/fixed/README.md) on the bare decoder, by both engines, and compares the line of each with the
 // stored one. It tells the first differences, and at the end how many there are; a list that is not whole gets a line that says what is
 // wrong.
+#![tactic(auto)]
+
 ghost use Rattle.io.specs.Counts.{IsPrefixLen};
 
 use bool_script::engines::Engine;
@@ -9,7 +11,7 @@ use lines::Number;
 use std::num::wrapping_add_u64;
 
 // What has been replayed, and whether there may be more.
-#[derive(Drop)]
+#[derive(Clone, Copy)]
 struct Tally {
     scripts: u64,
     operations: u64,
@@ -18,7 +20,7 @@ struct Tally {
 }
 
 // A line from the list, and whether it came whole.
-#[derive(Drop)]
+#[derive(Clone, Copy)]
 struct Stored {
     whole: bool,
     count: usize,

@@ -14,7 +14,7 @@ use bool_slow::bare::{Shown, Value};
 use bool_slow::{SlowDecoder, bare};
 
 // Which engine.
-#[derive(Drop)]
+#[derive(Clone, Copy)]
 pub enum Engine {
     // `bool_decoder`.
     Window,
@@ -23,7 +23,7 @@ pub enum Engine {
 }
 
 // A decoder of one of them.
-#[derive(Drop)]
+#[derive(Clone, Copy)]
 pub enum Decoder {
     // The window's.
     Window(BoolDecoder),
@@ -32,7 +32,7 @@ pub enum Decoder {
 }
 
 // What a read gave, and the decoder after it.
-#[derive(Drop)]
+#[derive(Clone, Copy)]
 pub struct Answer {
     // What the read gave.
     pub value: Value,

@@ -8,7 +8,7 @@ use crate::kinds_known;
 use lines::Number;
 
 // How the input goes on: by a whole script, by its end, or by a fault.
-#[derive(Drop)]
+#[derive(Clone, Copy)]
 pub enum Came {
     // A whole script.
     Whole,
@@ -23,7 +23,7 @@ pub enum Came {
 }
 
 // A script as far as it came.
-#[derive(Drop)]
+#[derive(Clone, Copy)]
 pub struct Script {
     // How it came.
     pub came: Came,
@@ -34,7 +34,7 @@ pub struct Script {
 }
 
 // The reads of a script as far as they came, and their bytes.
-#[derive(Drop)]
+#[derive(Clone, Copy)]
 struct Reads {
     came: Came,
     count: usize,

@@ -1,6 +1,8 @@
 // A script of reads over an area, run on the bare decoder of either engine: each read is a kind (0 bool, 1 literal, 2 signed literal) and
 // a probability or a width. The line tells what each read gave, where it left the decoder and how far past the area's end, and at its end
 // what the decoder shows; which engine made it has no say.
+#![tactic(auto)]
+
 pub mod engines;
 pub mod input;
 pub mod program;
@@ -17,7 +19,7 @@ use bool_slow::bare::Value;
 use engines::{Decoder, Engine};
 
 // What a step leaves: the decoder, and where the line ends.
-#[derive(Drop)]
+#[derive(Clone, Copy)]
 struct Told {
     dec: Decoder,
     at: usize,

@@ -10,7 +10,7 @@ ghost use Rattle.bool_slow.specs.Told.{shown_of};
 use crate::SlowDecoder;
 
 // What a read gave.
-#[derive(Drop)]
+#[derive(Clone, Copy)]
 pub enum Value {
     // A bool.
     Bit(bool),
@@ -23,7 +23,7 @@ pub enum Value {
 }
 
 // What a read gave, and the decoder after it.
-#[derive(Drop)]
+#[derive(Clone, Copy)]
 pub struct Answer {
     // What the read gave.
     pub value: Value,
@@ -34,7 +34,7 @@ pub struct Answer {
 }
 
 // What the outside may see of a decoder.
-#[derive(Drop)]
+#[derive(Clone, Copy)]
 pub struct Shown {
     // In bits; it stops at the area's end.
     pub position: u32,

@@ -4,6 +4,8 @@
 // It differs from that section in five things: past the area's end it fetches zeros; a doubling drops what reaches 256, which section 7.2
 // takes to be zero and which in an area that begins with FF is not; a signed literal is another; bools are counted; and the decoder goes by
 // value, the area beside it.
+#![tactic(auto)]
+
 pub mod bare;
 
 ghost use Rattle.std.specs.Prelude.{◌+◌, ◌≤◌};
@@ -15,7 +17,7 @@ use bool_decoder::signed_of;
 
 // Section 7.2, what the decoder maintains, and the struct of section 7.3: value and the bytes not read yet are what is left of the coded
 // number above the left end of the interval.
-#[derive(Drop)]
+#[derive(Clone, Copy)]
 pub struct SlowDecoder {
     // Where the next byte to be read stands in the area.
     input: u32,
@@ -30,21 +32,21 @@ pub struct SlowDecoder {
 }
 
 // A bool, and the decoder after it.
-#[derive(Drop)]
+#[derive(Clone, Copy)]
 struct Bit {
     bit: bool,
     dec: SlowDecoder,
 }
 
 // A literal, and the decoder after it.
-#[derive(Drop)]
+#[derive(Clone, Copy)]
 struct Literal {
     value: u32,
     dec: SlowDecoder,
 }
 
 // A signed literal, and the decoder after it.
-#[derive(Drop)]
+#[derive(Clone, Copy)]
 struct SignedLiteral {
     value: i32,
     dec: SlowDecoder,

@@ -1,5 +1,7 @@
 // The walk over a recording in one slice: where each frame's bytes begin, and how many they are, into two lists that the caller lends.
 // No public function has a premise.
+#![tactic(auto)]
+
 ghost use Rattle.std.specs.Prelude.{◌≡◌, ◌≤◌, min, length};
 ghost use Rattle.ivf.specs.Ivf.{starts, magic, headed};
 ghost use Rattle.ivf.specs.Walk.{refusal_of, step_at};
@@ -8,7 +10,7 @@ ghost use Rattle.ivf.specs.Listed.{Listed};
 use bitstream_utils::read_le4;
 
 // What stands at a place between records: the end of the file, a record that is cut short, or one with this many bytes of a frame.
-#[derive(Drop)]
+#[derive(Clone, Copy)]
 pub enum Step {
     Done,
     Cut,
@@ -16,7 +18,7 @@ pub enum Step {
 }
 
 // How a walk ends: at the end of the file, or by a refusal.
-#[derive(Drop)]
+#[derive(Clone, Copy)]
 pub enum Ended {
     // The file ends after a record, or after the header.
     AtEnd,
@@ -43,7 +45,7 @@ impl Ended {
 }
 
 // What a walk answers.
-#[derive(Drop)]
+#[derive(Clone, Copy)]
 pub struct Walked {
     // How many frames are listed.
     pub count: usize,

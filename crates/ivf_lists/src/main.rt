@@ -1,6 +1,8 @@
 // What the walk lists, whole: recordings from standard input, each after the lengths of two lists (a byte each, at most 64) and its own
 // (four bytes, least significant first, at most 65,536); a line for each with the answer and every entry of both lists, which are
 // 1,000,000 and 2,000,000 and on before the walk. A bad record gets a line that says what is wrong, and ends the run.
+#![tactic(auto)]
+
 use ivf::Walked;
 use lines::Number;
 

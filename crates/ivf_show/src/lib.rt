@@ -1,5 +1,7 @@
 // What the two programs over recordings share: a recording from standard input, at most 65,536 bytes, each of its frames to one parser,
 // the lines of each frame with its index in front, and at the end the refusal, if there is one.
+#![tactic(auto)]
+
 ghost use Rattle.std.specs.Prelude.{◌≡◌, ◌≤◌, length, take};
 ghost use Rattle.rfc6386.specs.Call.{after};
 ghost use Rattle.ivf.specs.Walk.{bytes_of};

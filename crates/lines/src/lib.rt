@@ -1,5 +1,7 @@
 // Input and output of the programs: a text to standard output, and numbers and runs of bytes from standard input.
 // No public function has a premise.
+#![tactic(auto)]
+
 ghost use Rattle.std.specs.Prelude.{◌≡◌, ◌<◌, ◌≤◌, ◌+◌, ◌*◌, get_or};
 ghost use Rattle.io.specs.Counts.{IsPrefixLen};
 ghost use Rattle.lines.specs.Read.{Below};
@@ -30,7 +32,7 @@ pub fn take(buf: &mut [u8], n: usize) -> usize
 }
 
 // A number, its bytes least significant first, or how the input ends before it: at once, or in its midst.
-#[derive(Drop)]
+#[derive(Clone, Copy)]
 pub enum Number {
     Is(u32),
     End,

@@ -2,7 +2,6 @@
 -- mode shows of the last; and where the decoder ends, which may be past the bytes that it may read.
 use Rattle.std.specs.Prelude.{ℕ, ◌^◌, Bool, true, false, List, [], ◌∷◌, ◌++◌, map, take}
 use Rattle.vp8_records.specs.declared.Mode.{Mode}
-use Rattle.vp8_records.specs.declared.Mode.TheVariants.{Rust, Standard}
 use Rattle.vp8_records.specs.declared.Parsed.{Parsed}
 use Rattle.vp8_records.specs.Outcome.{number_of}
 use Rattle.vp8_records.specs.Start.{fresh}

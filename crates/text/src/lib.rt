@@ -1,6 +1,8 @@
 // Text in a buffer that the caller lends: bytes, two hexadecimal digits a byte, decimal numbers, templates. No input, no output.
 // A text is the first `at` bytes of `out`. Each writer puts its bytes there, as far as the buffer goes, and answers the new count.
 // No public function has a premise.
+#![tactic(auto)]
+
 ghost use Rattle.std.specs.Prelude.{◌≡◌, cond, List, [], ◌∷◌, ◌++◌, ℕ, ◌<◌, ◌+◌, take as List·take, drop, nat_abs};
 ghost use Rattle.text.specs.Text.{text, put, puts};
 ghost use Rattle.text.specs.Digits.{glyph as Digits·glyph, hex_of, decimal_of, signed_of};
@@ -78,7 +80,7 @@ fn wide(n: u32) -> u64
 }
 
 // The text's new end, and which number comes next.
-#[derive(Drop)]
+#[derive(Clone, Copy)]
 struct Filling {
     at: usize,
     next: usize,

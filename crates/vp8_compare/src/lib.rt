@@ -1,4 +1,6 @@
 // What differs first between an answer of the parser and a stored one.
+#![tactic(auto)]
+
 ghost use Rattle.std.specs.Prelude.{◌≡◌, ◌≤◌, drop};
 ghost use Rattle.vp8_records.specs.Start.{fresh};
 ghost use Rattle.vp8_flat.specs.Bytes.{kept_bytes};
@@ -10,7 +12,7 @@ ghost use Rattle.vp8_compare.specs.Found.{header_found, answer_found, or_kept, f
 use vp8_records::{Header, Parsed, Parser};
 
 // Where two runs of numbers first differ.
-#[derive(Drop)]
+#[derive(Clone, Copy)]
 pub enum Place {
     // At this place.
     At(usize),
@@ -19,7 +21,7 @@ pub enum Place {
 }
 
 // The first difference, in the order in which a list has an answer.
-#[derive(Drop)]
+#[derive(Clone, Copy)]
 pub enum Found {
     // None.
     Same,

@@ -1,11 +1,13 @@
 // Reads frames from standard input (`vp8_show::input`), parses them with one parser in the mode that was asked for last, at first the
 // Rust's, and prints a line for each (`vp8_show::dump`). A frame that is only to be looked at leaves the parser alone. A bad record gets
 // a line that says what is wrong, and ends the run.
+#![tactic(auto)]
+
 use vp8_records::{Mode, Parser};
 use vp8_show::input::Came;
 
 // The parser, the mode, whether the next frame is only looked at, and whether to go on.
-#[derive(Drop)]
+#[derive(Clone, Copy)]
 struct Run {
     parser: Parser,
     mode: Mode,

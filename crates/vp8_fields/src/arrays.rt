@@ -10,7 +10,7 @@ use bool_decoder::BoolDecoder;
 use bool_decoder::reads::{byte_or, read_byte, sint_or};
 
 // Four signed numbers, and the decoder after them.
-#[derive(Drop)]
+#[derive(Clone, Copy)]
 pub struct Ints {
     pub values: [i8; 4],
     pub dec: BoolDecoder,

@@ -10,7 +10,7 @@ use bool_decoder::zeros::seek;
 use vp8_records::CoeffProbs;
 
 // The probabilities, and the decoder after them.
-#[derive(Drop)]
+#[derive(Clone, Copy)]
 pub struct CoeffRead {
     pub coeff_prob: CoeffProbs,
     // How many bits the decoder has gone past the area's end.

@@ -12,7 +12,7 @@ use bool_decoder::reads::flag_if;
 use vp8_records::MbLfAdjustments;
 
 // The record after the sub-header, and the decoder after it.
-#[derive(Drop)]
+#[derive(Clone, Copy)]
 pub struct AdjustmentsRead {
     pub mb_lf_adjust: MbLfAdjustments,
     // How many bits the decoder has gone past the area's end.

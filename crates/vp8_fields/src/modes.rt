@@ -7,21 +7,21 @@ use crate::arrays::{four_bytes, three_bytes};
 use bool_decoder::BoolDecoder;
 
 // Three bytes, and the decoder after them.
-#[derive(Drop)]
+#[derive(Clone, Copy)]
 pub struct ThreeBytes {
     pub values: [u8; 3],
     pub dec: BoolDecoder,
 }
 
 // Four bytes, and the decoder after them.
-#[derive(Drop)]
+#[derive(Clone, Copy)]
 pub struct FourBytes {
     pub values: [u8; 4],
     pub dec: BoolDecoder,
 }
 
 // The luma mode probabilities after the sub-header, and the decoder after it.
-#[derive(Drop)]
+#[derive(Clone, Copy)]
 pub struct LumaRead {
     pub values: [u8; 4],
     // How many bits the decoder has gone past the area's end.
@@ -30,7 +30,7 @@ pub struct LumaRead {
 }
 
 // The chroma ones.
-#[derive(Drop)]
+#[derive(Clone, Copy)]
 pub struct ChromaRead {
     pub values: [u8; 3],
     // How many bits the decoder has gone past the area's end.

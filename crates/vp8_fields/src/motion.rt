@@ -14,14 +14,14 @@ use bool_decoder::reads::{Byte, read_byte};
 use vp8_records::{MvContext, MvProbs};
 
 // The probabilities of one component, and the decoder after them.
-#[derive(Drop)]
+#[derive(Clone, Copy)]
 struct MvContextRead {
     pub row: MvContext,
     pub dec: BoolDecoder,
 }
 
 // Those of both, and the decoder after them.
-#[derive(Drop)]
+#[derive(Clone, Copy)]
 pub struct MvRead {
     pub mv_prob: MvProbs,
     // How many bits the decoder has gone past the area's end.

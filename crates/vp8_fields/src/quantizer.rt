@@ -7,7 +7,7 @@ use bool_decoder::reads::{read_byte, sint_or};
 use vp8_records::QuantIndices;
 
 // The record of the sub-header, and the decoder after it.
-#[derive(Drop)]
+#[derive(Clone, Copy)]
 pub struct QuantRead {
     pub quant_indices: QuantIndices,
     // How many bits the decoder has gone past the area's end.

@@ -13,7 +13,7 @@ use bool_decoder::reads::flag_if;
 use vp8_records::{Mode, Segmentation};
 
 // The record after the sub-header, and the decoder after it.
-#[derive(Drop)]
+#[derive(Clone, Copy)]
 pub struct SegmentationRead {
     pub segmentation: Segmentation,
     // How many bits the decoder has gone past the area's end.
@@ -22,7 +22,7 @@ pub struct SegmentationRead {
 }
 
 // The record with its feature data, and the decoder after them.
-#[derive(Drop)]
+#[derive(Clone, Copy)]
 struct FeaturesRead {
     pub segmentation: Segmentation,
     pub dec: BoolDecoder,

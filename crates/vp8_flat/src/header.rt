@@ -6,7 +6,7 @@ use crate::{bit, byte_of};
 use vp8_records::{Header, Look, Outcome, QuantIndices};
 
 // What a refusal carries: 2 its code, 3 the end and the length, 6 the length; else zeros. The number is 0 where the frame is accepted.
-#[derive(Drop)]
+#[derive(Clone, Copy)]
 pub struct Carried {
     pub number: u32,
     pub a: u64,

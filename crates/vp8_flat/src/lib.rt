@@ -1,5 +1,7 @@
 // The records as runs: the 1,126 kept numbers of a parser, the probabilities and the numbers of a header, in the order of parser.rs.
 // A signed number is its two's complement byte, a flag 0 or 1. The writers put a run into a lent buffer, as `text` does.
+#![tactic(auto)]
+
 pub mod header;
 
 ghost use Rattle.std.specs.Prelude.{◌≡◌, map};

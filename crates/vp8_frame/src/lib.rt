@@ -1,5 +1,7 @@
 // The lent forms of parser.rs, thin functions over the call by value: a parser behind `&mut`, and a frame that refers to the caller's
 // bytes.
+#![tactic(auto)]
+
 ghost use Rattle.std.specs.Prelude.{◌≡◌};
 ghost use Rattle.vp8_records.specs.declared.Mode.TheVariants.{Rust};
 ghost use Rattle.vp8_frame.specs.View.{viewed, Framed};
@@ -7,7 +9,7 @@ ghost use Rattle.vp8_frame.specs.View.{viewed, Framed};
 use vp8_records::{Header, Mode, Outcome, Parser};
 
 // A header and the whole frame that it was read from; of a refusal, the blank header and an empty part.
-#[derive(Drop)]
+#[derive(Clone, Copy)]
 pub struct Frame<'a> {
     // How the call went.
     pub outcome: Outcome,

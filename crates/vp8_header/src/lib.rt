@@ -1,4 +1,6 @@
 // The compressed frame header of parser.rs, read in three stages over the bytes that the decoder may read, and the state that it leaves.
+#![tactic(auto)]
+
 ghost use Rattle.std.specs.Prelude.{◌≡◌, true, false};
 ghost use Rattle.vp8_records.specs.Start.{key_modes};
 ghost use Rattle.rfc6386.specs.Decoder.{bits, pick};
@@ -18,7 +20,7 @@ use vp8_records::{
 };
 
 // The uncompressed chunk (RFC 6386 section 9.1).
-#[derive(Drop)]
+#[derive(Clone, Copy)]
 pub struct DataChunk {
     // Whether it is a key frame's (9.1).
     pub key_frame: bool,
@@ -37,7 +39,7 @@ pub struct DataChunk {
 }
 
 // The header's first fields (RFC 6386 section 19.2); the stages follow the order in which they are read.
-#[derive(Drop)]
+#[derive(Clone, Copy)]
 pub struct First {
     // Whether colours are of a kind left open; a key frame's (9.2).
     pub color_space: bool,
@@ -54,7 +56,7 @@ pub struct First {
 }
 
 // Which buffers a frame renews, and whether its probabilities are kept (RFC 6386 sections 9.7, 9.8 and 9.11).
-#[derive(Drop)]
+#[derive(Clone, Copy)]
 pub struct RefreshFlags {
     // Whether the frame becomes the golden one (9.7).
     pub refresh_golden_frame: bool,
@@ -75,7 +77,7 @@ pub struct RefreshFlags {
 }
 
 // The fields from the filter's deltas to the refresh flags (RFC 6386 section 19.2).
-#[derive(Drop)]
+#[derive(Clone, Copy)]
 pub struct Second {
     // The filter's adjustments, as they are kept from here on (9.4).
     pub mb_lf_adjust: MbLfAdjustments,
@@ -88,7 +90,7 @@ pub struct Second {
 }
 
 // What an inter frame codes last; a key frame leaves the numbers 0 and the records as they were (RFC 6386 section 19.2).
-#[derive(Drop)]
+#[derive(Clone, Copy)]
 pub struct InterFields {
     // The chance that a macroblock is not predicted from another frame (9.10).
     pub prob_intra: u8,
@@ -103,7 +105,7 @@ pub struct InterFields {
 }
 
 // The fields from the coefficient probabilities on (RFC 6386 section 19.2).
-#[derive(Drop)]
+#[derive(Clone, Copy)]
 pub struct Third {
     // The coefficient probabilities, with those coded here (13.4).
     pub coeff_prob: CoeffProbs,
@@ -116,7 +118,7 @@ pub struct Third {
 }
 
 // The first fields, and the decoder after them.
-#[derive(Drop)]
+#[derive(Clone, Copy)]
 pub struct FirstRead {
     // What was read.
     pub first: First,
@@ -125,7 +127,7 @@ pub struct FirstRead {
 }
 
 // The refresh flags, and the decoder after them.
-#[derive(Drop)]
+#[derive(Clone, Copy)]
 pub struct RefreshRead {
     // What was read.
     pub refresh: RefreshFlags,
@@ -134,7 +136,7 @@ pub struct RefreshRead {
 }
 
 // The next fields, and the decoder after them.
-#[derive(Drop)]
+#[derive(Clone, Copy)]
 pub struct SecondRead {
     // What was read.
     pub second: Second,
@@ -143,7 +145,7 @@ pub struct SecondRead {
 }
 
 // An inter frame's own fields, and the decoder after them.
-#[derive(Drop)]
+#[derive(Clone, Copy)]
 pub struct InterRead {
     // What was read.
     pub inter: InterFields,
@@ -152,7 +154,7 @@ pub struct InterRead {
 }
 
 // The last fields, and the decoder after them.
-#[derive(Drop)]
+#[derive(Clone, Copy)]
 pub struct ThirdRead {
     // What was read.
     pub third: Third,
@@ -161,7 +163,7 @@ pub struct ThirdRead {
 }
 
 // A header read to its end, and the state after it.
-#[derive(Drop)]
+#[derive(Clone, Copy)]
 pub struct Headed {
     // The header, whose partition sizes are still to come.
     pub header: Header,

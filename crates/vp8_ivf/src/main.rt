@@ -1,4 +1,6 @@
 // A recording from standard input through a fresh parser, as the Rust reads frames: `ivf_show`.
+#![tactic(auto)]
+
 use vp8_records::Mode;
 
 fn main() {

@@ -1,4 +1,6 @@
 // The frame of parser.rs: chunk, header, partition sizes, state and outcome, as one call by value; and a look at the first ten bytes.
+#![tactic(auto)]
+
 ghost use Rattle.std.specs.Prelude.{◌≡◌, true, false, ◌^◌, ◌<◌, ◌≤◌, length, take};
 ghost use Rattle.std.proofs.Math.Option.{none};
 ghost use Rattle.vp8_records.specs.declared.Mode.TheVariants.{Rust};
@@ -13,7 +15,7 @@ use vp8_header::DataChunk;
 use vp8_records::{Header, Look, Mode, Outcome, Parsed, Parser, Peeked};
 
 // What the first bytes of a frame are: a chunk, or a refusal.
-#[derive(Drop)]
+#[derive(Clone, Copy)]
 pub enum ChunkAnswer {
     // Refusal 6, 1 or 2.
     Refused(Outcome),
@@ -22,7 +24,7 @@ pub enum ChunkAnswer {
 }
 
 // The partition sizes (RFC 6386 section 9.5).
-#[derive(Drop)]
+#[derive(Clone, Copy)]
 pub struct Sizes {
     // Whether they end within the area.
     pub ok: bool,
@@ -31,7 +33,7 @@ pub struct Sizes {
 }
 
 // The sizes that are coded: all but the last (RFC 6386 section 9.5).
-#[derive(Drop)]
+#[derive(Clone, Copy)]
 pub struct Listed {
     // Them; unused entries are 0.
     pub sizes: [u32; 8],

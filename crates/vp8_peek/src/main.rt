@@ -1,4 +1,6 @@
 // The looking program: what the first bytes of a frame tell. It reads at most ten bytes of standard input and waits for no more.
+#![tactic(auto)]
+
 fn main() {
     let mut first = [0u8; 10];
     let n = lines::take(&mut first, 10);

@@ -1,4 +1,6 @@
 // The printing program: one frame from standard input, at most 65,536 bytes, parsed by a fresh parser, and its answer in words.
+#![tactic(auto)]
+
 use vp8_records::Parser;
 
 fn main() {

@@ -1,4 +1,6 @@
 // The printing program in the standard's mode: as vp8_print, with the frame read as RFC 6386 has it.
+#![tactic(auto)]
+
 use vp8_records::{Mode, Parser};
 
 fn main() {

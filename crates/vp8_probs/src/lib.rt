@@ -1,4 +1,6 @@
 // The probability tables of probs.rs: see tables.rt. A constant array is made anew wherever it is named: name one once, and lend it down.
+#![tactic(auto)]
+
 ghost use Rattle.std.specs.Prelude.{◌≡◌, ℕ, ◌<◌, get_or};
 ghost use Rattle.vp8_probs.specs.Tables.{coeff_update};
 

@@ -1,4 +1,6 @@
 // A recording through one parser: the walk, then a call for each frame that it lists, in the file's order.
+#![tactic(auto)]
+
 ghost use Rattle.std.specs.Prelude.{◌≡◌, ◌≤◌, min, length, take, drop};
 ghost use Rattle.vp8_records.specs.declared.Mode.TheVariants.{Rust};
 ghost use Rattle.vp8_records.specs.Place.{further};
@@ -11,7 +13,7 @@ use ivf::Walked;
 use vp8_records::{Mode, Parser};
 
 // What a recording leaves.
-#[derive(Drop)]
+#[derive(Clone, Copy)]
 pub struct Played {
     // How many frames were listed and fed, and why no more.
     pub walked: Walked,

@@ -11,8 +11,8 @@ use Rattle.vp8_records.specs.Shape.{Every}
 pub length_mapped : (X Y : Type 0) (f : X → Y) (l : List X) (n : ℕ) → length (map f l) ≡ n → length l ≡ n
 length_mapped X Y f l n p = sym (length-map l f) ∙ p
 
-pub every_of : {B : Type 0} (d : Type 0) (f : d → List Val → Fml) (g : B → d) (P : B → Type 0)
-    → ((x : B) (u : Val) → shadow (f (g x) (u ∷ [])) → P x) → (xs : List B) (us : List Val) → shadow (each d f (map g xs) us) → Every P xs
-every_of d f g P h [] us o = tt
-every_of d f g P h (x ∷ xs) [] o = absurd o
-every_of d f g P h (x ∷ xs) (u ∷ us) o = (h x u o.0, every_of d f g P h xs us o.1)
+pub every_of : {B : Type 0} (f : B → List Val → Fml) (P : B → Type 0)
+    → ((x : B) (u : Val) → shadow (f x (u ∷ [])) → P x) → (xs : List B) (us : List Val) → shadow (each B f xs us) → Every P xs
+every_of f P h [] us o = tt
+every_of f P h (x ∷ xs) [] o = absurd o
+every_of f P h (x ∷ xs) (u ∷ us) o = (h x u o.0, every_of f P h xs us o.1)

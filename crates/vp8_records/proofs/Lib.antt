@@ -4,6 +4,5 @@ pub mod Places
 pub mod Parts
 pub mod Index
 pub mod Totals
-pub mod Lends
 pub mod Arrays
 pub mod Typed

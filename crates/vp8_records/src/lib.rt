@@ -1,4 +1,6 @@
 // The records of parser.rs, with its names and order, and the starting values that belong to them.
+#![tactic(auto)]
+
 ghost use Rattle.std.specs.Prelude.{◌≡◌, ◌+◌, ◌*◌, ◌^◌, ◌<◌, ◌≤◌, length, take, drop};
 ghost use Rattle.vp8_records.specs.Layout.{coeff_index, laid_mv_context, laid_mv};
 ghost use Rattle.vp8_records.specs.Start.{fresh_segmentation, fresh_adjustments, fresh_coeffs, fresh_mv, fresh_modes, key_modes, fresh};
@@ -9,7 +11,7 @@ ghost use Rattle.vp8_records.specs.Mode.{mode_of};
 ghost use Rattle.vp8_records.specs.Length.{total, partitions_of, length_of};
 
 // The quantizer indices (RFC 6386 section 9.6).
-#[derive(Drop)]
+#[derive(Clone, Copy)]
 pub struct QuantIndices {
     // The base index, of the luma AC coefficients (9.6).
     pub y_ac_qi: u8,
@@ -26,7 +28,7 @@ pub struct QuantIndices {
 }
 
 // The filter's adjustments by reference frame and mode (RFC 6386 section 9.4).
-#[derive(Drop)]
+#[derive(Clone, Copy)]
 pub struct MbLfAdjustments {
     // Whether levels are adjusted at all (9.4).
     pub loop_filter_adj_enable: bool,
@@ -39,7 +41,7 @@ pub struct MbLfAdjustments {
 }
 
 // The adjustments by segment (RFC 6386 section 9.3).
-#[derive(Drop)]
+#[derive(Clone, Copy)]
 pub struct Segmentation {
     // Whether macroblocks belong to segments (9.3).
     pub segmentation_enabled: bool,
@@ -58,7 +60,7 @@ pub struct Segmentation {
 }
 
 // The probabilities by which prediction modes are coded in inter frames (RFC 6386 sections 9.10 and 16.2).
-#[derive(Drop)]
+#[derive(Clone, Copy)]
 pub struct ModeProbs {
     // Of the luma modes (16.2).
     pub intra_16x16_prob: [u8; 4],
@@ -67,28 +69,28 @@ pub struct ModeProbs {
 }
 
 // The coefficient probabilities, as one run: `coeff_index` tells where an entry stands.
-#[derive(Drop)]
+#[derive(Clone, Copy)]
 pub struct CoeffProbs {
     // One for each block type, band, context and place of the token tree (13.3).
     pub v: [u8; 1056],
 }
 
 // The nineteen probabilities of one component of a motion vector.
-#[derive(Drop)]
+#[derive(Clone, Copy)]
 pub struct MvContext {
     // One for each place of a component's code (17.2).
     pub v: [u8; 19],
 }
 
 // The motion probabilities of both components.
-#[derive(Drop)]
+#[derive(Clone, Copy)]
 pub struct MvProbs {
     // The row's, then the column's (17.2).
     pub v: [MvContext; 2],
 }
 
 // What a frame's chunk and header say (RFC 6386 sections 9 and 19.2), and what comes of it.
-#[derive(Drop)]
+#[derive(Clone, Copy)]
 pub struct Header {
     // Whether it is a key frame (9.1).
     pub key_frame: bool,
@@ -175,7 +177,7 @@ pub struct Header {
 }
 
 // What is kept from frame to frame: 1,126 numbers.
-#[derive(Drop)]
+#[derive(Clone, Copy)]
 pub struct Parser {
     // The adjustments by segment (9.3): 15 numbers.
     pub segmentation: Segmentation,
@@ -190,7 +192,7 @@ pub struct Parser {
 }
 
 // Whose reading of a frame: it is given with each call, and not kept.
-#[derive(Drop)]
+#[derive(Clone, Copy)]
 pub enum Mode {
     // The Rust's: segment probabilities only with feature data, and a decoder that reads on past the first partition.
     Rust,
@@ -199,7 +201,7 @@ pub enum Mode {
 }
 
 // How a call went: a header, or one of six refusals with what it carries.
-#[derive(Drop)]
+#[derive(Clone, Copy)]
 pub enum Outcome {
     // 0: a header was read, and the partitions lie within the frame.
     Accepted,
@@ -218,7 +220,7 @@ pub enum Outcome {
 }
 
 // What the first ten bytes of a frame tell of it; each field is the header's of the same name (RFC 6386 section 9.1).
-#[derive(Drop)]
+#[derive(Clone, Copy)]
 pub struct Look {
     // Whether it is a key frame (9.1).
     pub key_frame: bool,
@@ -239,7 +241,7 @@ pub struct Look {
 }
 
 // The answer of a look at the first bytes, which refuses by 1 and 2 alone.
-#[derive(Drop)]
+#[derive(Clone, Copy)]
 pub enum Peeked {
     // What they tell.
     Seen(Look),
@@ -250,7 +252,7 @@ pub enum Peeked {
 }
 
 // The answer of a call. The header holds arrays, so it stands beside the outcome.
-#[derive(Drop)]
+#[derive(Clone, Copy)]
 pub struct Parsed {
     // How it went.
     pub outcome: Outcome,

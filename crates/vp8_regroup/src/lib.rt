@@ -1,5 +1,7 @@
 // An example for those who regroup fields: the loop filter's level and sharpness (RFC 6386 section 9.4) read as one literal of nine bools,
 // under the contracts that their two reads have. The parser does not use it.
+#![tactic(auto)]
+
 ghost use Rattle.rfc6386.specs.Reads.{make};
 ghost use Rattle.bool_decoder.specs.Model.{Good, Ran};
 ghost use Rattle.vp8_header.specs.Stages.{first, first_of};
@@ -10,7 +12,7 @@ use vp8_header::{First, FirstRead};
 use vp8_records::{Mode, Segmentation};
 
 // The loop filter's level and sharpness, and the decoder after them.
-#[derive(Drop)]
+#[derive(Clone, Copy)]
 pub struct Filter {
     // Six bools (9.4).
     pub level: u8,

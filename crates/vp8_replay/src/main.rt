@@ -1,6 +1,8 @@
 // Replays the stored list of frames (tests/fixed/README.md) on the parser and compares every field of every answer, and every kept number
 // after every call, with the stored ones. It tells the first differences, and at the end how many frames there are; a list that is not
 // whole gets a line that says what is wrong.
+#![tactic(auto)]
+
 mod list;
 
 ghost use Rattle.std.specs.Prelude.{◌≤◌};
@@ -18,7 +20,7 @@ const WIDTHS: [u8; 51] = [
 ];
 
 // Frames are counted in all and within the sequence; `more` says whether the list may go on.
-#[derive(Drop)]
+#[derive(Clone, Copy)]
 struct Tally {
     sequences: u64,
     frames: u64,
@@ -28,7 +30,7 @@ struct Tally {
 }
 
 // The parser, and what has been replayed.
-#[derive(Drop)]
+#[derive(Clone, Copy)]
 struct Replay {
     parser: Parser,
     tally: Tally,

@@ -1,4 +1,6 @@
 // Many frames over one parser: the fold of calls, so that what is proved of any list of calls holds of running code.
+#![tactic(auto)]
+
 ghost use Rattle.std.specs.Prelude.{◌≡◌, [], ◌+◌, ◌≤◌, min, get_or};
 ghost use Rattle.vp8_records.specs.Mode.{mode_of};
 ghost use Rattle.rfc6386.specs.Fills.{cuts};
@@ -7,7 +9,7 @@ ghost use Rattle.vp8_sequence.specs.Fold.{asked, one, Folds};
 use vp8_records::{Mode, Outcome, Parser};
 
 // The state after all frames, and how many of them were accepted.
-#[derive(Drop)]
+#[derive(Clone, Copy)]
 pub struct Folded {
     // What is kept after the last frame.
     pub parser: Parser,

@@ -8,7 +8,7 @@ use lines::Number;
 use vp8_records::Mode;
 
 // How the input goes on.
-#[derive(Drop)]
+#[derive(Clone, Copy)]
 pub enum Came {
     Frame,
     Fresh,
@@ -20,7 +20,7 @@ pub enum Came {
 }
 
 // How it came, and how many bytes of a frame there are.
-#[derive(Drop)]
+#[derive(Clone, Copy)]
 pub struct Record {
     pub came: Came,
     pub count: usize,

@@ -1,5 +1,7 @@
 // What the programs over whole frames share: frames from standard input, and an answer in words. `print` has the lines of the printing
 // program, `dump` a line with every number of the answer and of the parser after it. Both put their text at any place of a lent buffer.
+#![tactic(auto)]
+
 pub mod dump;
 pub mod input;
 pub mod print;

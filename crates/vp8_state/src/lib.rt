@@ -1,5 +1,7 @@
 // The parser record handed over as a block of bytes (docs/RULES.md, the block): written, read, and one call over it; for Rattle, and, with
 // numbers and byte slices only, for hosts that link the library. No public function has a premise.
+#![tactic(auto)]
+
 ghost use Rattle.std.specs.Prelude.{◌≡◌, map, ◌++◌, ◌+◌, ◌≤◌, eqb, nat_abs, length, drop};
 ghost use Rattle.std.proofs.Math.Seq.{paste};
 ghost use Rattle.std.proofs.Common.{to_z};
@@ -29,7 +31,7 @@ const KINDS: [u8; 25] = [
 ];
 
 // Whether bytes are taken, as a block or as a record to be written.
-#[derive(Drop)]
+#[derive(Clone, Copy)]
 pub enum Verdict {
     // They are.
     Taken,
@@ -56,7 +58,7 @@ impl Verdict {
 }
 
 // What reading a block answers.
-#[derive(Drop)]
+#[derive(Clone, Copy)]
 pub struct ReadAnswer {
     // Whether the block is taken.
     pub verdict: Verdict,
