@@ -38,7 +38,7 @@ module _ {area t : List ℕ} {i : ℕ} {d : BoolDecoder} where
     good = record { over = over_of g.good.over q; room = omega (arith, few q, rises q, g.good.room) };
   }
 
-  pub join : {j k : ℕ} {e f : BoolDecoder} → Quiet area t i d j e → Quiet area t j e k f → Quiet area t i d k f
+  pub join : {j : ℕ} {e : BoolDecoder} {k : ℕ} {f : BoolDecoder} → Quiet area t i d j e → Quiet area t j e k f → Quiet area t i d k f
   join p here = p
   join p (past q r) = past (join p q) r
 

@@ -20,7 +20,7 @@ pub data Walk {A : Type 0} (area : List ℕ) : Rd A → BoolDecoder → A → Bo
   read : {B : Type 0} {m : Rd B} (f : B → Rd A) {d d₁ d₂ : BoolDecoder} {b : B} {a : A} {k n : ℕ}
       → Ran m area d b d₁ k → Walk area (f b) d₁ a d₂ n → Walk area (m >>= f) d a d₂ (k + n)
 
-pub reads_agree : {A : Type 0} {m : Rd A} {area : List ℕ} {d : BoolDecoder} {a : A} {d' : BoolDecoder} {n : ℕ}
+pub reads_agree : {A : Type 0} {area : List ℕ} {m : Rd A} {d : BoolDecoder} {a : A} {d' : BoolDecoder} {n : ℕ}
     → Over area d → Walk area m d a d' n → Ran m area d a d' n
 reads_agree o stop = done o
 reads_agree o (read f q w) = then f q (reads_agree q.over w)

@@ -5,9 +5,7 @@ use native.Mathlib.Nat.{mul-le-mul_right}
 use native.Mathlib.Omega.{arith}
 use lib.Pow.{pow-add, shl_lt}
 use lib.Count.{count_leading_zeros, leading_top}
-use borrow.Author.Rules.{rules}
-use Rattle.bool_decoder.proofs.norm.norm.Statement.{statement}
-use Rattle.bool_decoder.proofs.norm.norm.Tie as tie
+use Rattle.bool_decoder.proofs.norm.norm.Goals as goal
 
 raised : (a j z : ℕ) → z + suc j ≡ 8 → 2 ^ j ≤ a → a < 2 ^ suc j → (128 ≤ a * 2 ^ z) × (a * 2 ^ z < 256) × (z ≤ 7)
 raised a j z e low high =
@@ -18,14 +16,7 @@ raised a j z e low high =
       omega arith,
     )
 
-cast-byte : tie.Need-overflow-cast-byte
-cast-byte c = search rules
-
-returns : tie.Need-returns
-returns c =
-    let range = c.args.range in
+pub returns : goal.returns
+returns c = let range = c.args.range in
     let top = leading_top 8 range c.requires.0 c.requires.1 in
     raised range top.0 (count_leading_zeros 8 range) top.1 top.2 top.3
-
-pub norm-spec : {M : Type 1} → statement M
-norm-spec = tie.close (tie.spec cast-byte returns)
