@@ -23,7 +23,7 @@ abbrev pub flagged : List ℕ → ℕ → ℕ → Rd ℕ
 flagged t i x = make (λ u. or u x) (coded (get_or t i 0))
 
 module _ {area : List ℕ} (t : List ℕ) {d₀ : BoolDecoder} {xs : List ℕ} where
-  pub passed : {i k : ℕ} {d e : BoolDecoder} {now : List ℕ} → Quiet area t i d k e → k ≤ length xs
+  pub passed : {i : ℕ} {d : BoolDecoder} {k : ℕ} {e : BoolDecoder} {now : List ℕ} → Quiet area t i d k e → k ≤ length xs
       → Turn (flagged t) area 9 d₀ xs now d i → Turn (flagged t) area 9 d₀ xs now e k
   passed here h u = u
   passed {now} (past {j} {e} {e'} q r) h u =

@@ -12,10 +12,10 @@ use Rattle.vp8_records.specs.contracts.MvContext as T₁
 use Rattle.vp8_records.specs.contracts.MvProbs as T₂
 use Rattle.vp8_records.specs.contracts.Parser as T
 
-mv_context : (x : MvContext) (vs : List Val) → Is T₁.the_row x vs → SizedMvContext x
+pub mv_context : (x : MvContext) (vs : List Val) → Is T₁.the_row x vs → SizedMvContext x
 mv_context x vs h = h.1.1.0.1.0.1
 
-mv : (x : MvProbs) (vs : List Val) → Is T₂.the_row x vs → SizedMv x
+pub mv : (x : MvProbs) (vs : List Val) → Is T₂.the_row x vs → SizedMv x
 mv x vs h = (h.1.1.0.1.0.1, every_of T₁.the_row.own_val SizedMvContext (λ y u i. mv_context y (u ∷ []) i) x.v h.1.1.0.0 h.1.1.0.1.1)
 
 pub typed_sized : (p : Parser) (vs : List Val) → Is T.the_row p vs → Sized p
