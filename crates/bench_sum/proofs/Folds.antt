@@ -1,6 +1,6 @@
 -- Two runs of numbers one after the other are one. A loop over a run has at its head the sum so far and the numbers that are left, which
 -- together make the whole sum; a turn takes the first of them off.
-use Prim.Native.Nat.{ℕ, suc, ◌+◌, ◌≤◌, ◌<◌}
+use Prim.Native.Nat.{ℕ, ◌+◌, ◌≤◌, ◌<◌}
 use native.Mathlib.Omega.{arith}
 use native.Mathlib.Numerals.{add-one}
 use mathlib.Core.Path.{◌≡◌, refl, ap, sym, ◌∙◌}

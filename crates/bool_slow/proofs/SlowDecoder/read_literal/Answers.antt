@@ -1,0 +1,24 @@
+-- The loop is that of a literal, of any engine: `begin`, `turn`, `end` of the window's `Literal`.
+use mathlib.Core.Path.{◌≡◌, refl}
+use mathlib.Core.Bool.{Bool, true, false}
+use native.Mathlib.Omega.{arith}
+use mir.Val.{bool_byte}
+use Rattle.rfc6386.specs.Reads.{flag, bit}
+use Rattle.bool_decoder.proofs.Literal.{begin, turn, end}
+use Rattle.bool_slow.proofs.SlowDecoder.read_literal.Goals as goal
+
+-- a bool as a number
+byte_bit : (b : Bool) → bool_byte b ≡ bit b
+byte_bit true = refl
+byte_bit false = refl
+
+pub loop-init : goal.loop-init
+loop-init c = begin c.args.area.now c.args.num_bits c.args.self c.requires.1.over
+
+pub loop-preserved : goal.loop-preserved
+unfolding flag
+loop-preserved c = let read = c.read_bool-read in
+    turn c.loop.invariant (omega arith) read.ensures _ (byte_bit read.result.bit)
+
+pub returns : goal.returns
+returns c = end c.loop.invariant (omega arith)
