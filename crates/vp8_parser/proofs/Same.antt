@@ -1,17 +1,14 @@
 -- Any two answers that a contract admits are equal: the contracts are equations with the definition.
 use Prim.Native.Nat.{ℕ}
 use mathlib.Core.Path.{◌≡◌, refl, sym, ap, ◌∙◌}
-use mathlib.Core.Bool.{Bool}
 use mathlib.Core.List.{List}
 use native.Mathlib.Omega.{arith}
 use Rattle.vp8_records.specs.declared.Mode.{Mode}
-use Rattle.vp8_records.specs.declared.Outcome.{Outcome}
 use Rattle.vp8_records.specs.declared.Parsed.{Parsed}
 use Rattle.vp8_records.specs.declared.Parser.{Parser}
-use Rattle.vp8_records.specs.declared.Look.{Look}
 use Rattle.vp8_records.specs.declared.Peeked.{Peeked}
 use Rattle.vp8_records.specs.declared.Peeked.TheVariants.{Seen, TooShort, StartCode}
-use Rattle.rfc6386.specs.Frame.{Chunk, Opened, shut, opened, chunk}
+use Rattle.rfc6386.specs.Frame.{chunk}
 use Rattle.rfc6386.specs.Call.{call}
 use Rattle.rfc6386.specs.Peek.{peek, peek_of}
 use Rattle.vp8_header.specs.declared.DataChunk.{DataChunk}

@@ -1,0 +1,15 @@
+use Prim.Native.Nat.{◌-◌}
+use native.Mathlib.Omega.{arith}
+use mathlib.Core.Path.{◌≡◌}
+use lib.ListN.{length}
+use borrow.Author.Rules.{rules}
+use Rattle.vp8_records.proofs.Arrays.{length_mapped}
+use Rattle.vp8_flat.proofs.Runs.{Put, begin, turn, end}
+use Rattle.vp8_records.specs.Layout.{flat_mv_context}
+use Rattle.vp8_flat.proofs.put_motion.Given as goal
+
+abbrev pub invariant-loop-i : goal.invariant-loop-i
+invariant-loop-i l = Put flat_mv_context 2 l.initial.out l.at l.motion.v l.out l.to l.i
+
+abbrev pub decreases-loop-i : goal.decreases-loop-i
+decreases-loop-i l = 2 - l.i

@@ -1,0 +1,17 @@
+-- The pieces one after the other: `then` of `Puts`.
+use mathlib.Core.List.{[], ◌∷◌}
+use borrow.Author.Rules.{rules}
+use Rattle.text.proofs.Puts.{then, worded}
+use Rattle.vp8_flat.proofs.put_segmentation.Goals as goal
+
+pub returns : goal.returns
+returns c = then _ _ _ _ _
+    (worded _ _ _ _ c.bytes-to.ensures
+    (λ i.
+    c.bit.ensures i
+    ∷ c.bit-2.ensures i
+    ∷ c.bit-3.ensures i
+    ∷ c.bit-4.ensures i
+    ∷ []))
+    (then _ _ _ _ _ c.put_signed-to.ensures
+    (then _ _ _ _ _ c.put_signed-to-2.ensures c.bytes.ensures))
