@@ -2,13 +2,13 @@
 use Prim.Native.Nat.{ℕ, ◌+◌}
 use native.Mathlib.Omega.{arith}
 use mathlib.Core.Path.{◌≡◌, ap, sym, ◌∙◌}
-use mathlib.Core.List.{List, ◌++◌}
+use mathlib.Core.List.{List}
 use lib.ListN.{length, get_or, length-append}
 use borrow.Author.Tests.{eq-eqb, ne_eqb}
 use Rattle.vp8_records.specs.declared.Header.{Header}
 use Rattle.vp8_records.specs.declared.Parsed.{Parsed}
 use Rattle.vp8_flat.specs.declared.header.Carried.{Carried}
-use Rattle.vp8_flat.specs.Numbers.{carried_of, shape_of, quant_of, front_numbers}
+use Rattle.vp8_flat.specs.Numbers.{carried_of, quant_of, front_numbers}
 use Rattle.vp8_compare.specs.Apart.{apart}
 use Rattle.vp8_compare.specs.Found.{header_numbers, prob_bytes, header_found, answer_by, answer_found}
 use Rattle.vp8_compare.specs.declared.Place.TheVariants.{At, Nowhere}

@@ -37,7 +37,7 @@ fn part_of<'a>(bytes: &'a [u8], outcome: Outcome) -> &'a [u8]
 // One call over a lent parser, which holds the new state when it returns, also where the frame is refused.
 pub fn parse_frame_in<'s, 'a>(parser: &'s mut Parser, bytes: &'a [u8], mode: Mode) -> Frame<'a>
     ensures { Framed mode parser.old bytes.now result.outcome result.header result.bitstream.now
-        parser.new × (result.bitstream.ptr ≡ bytes.entry.ref_ptr) }
+        parser.new × (result.bitstream.ref_ptr ≡ bytes.entry.ref_ptr) }
 {
     let parsed = vp8_parser::parse_in(*parser, bytes, mode);
     *parser = parsed.parser;
@@ -52,7 +52,7 @@ pub fn parse_frame_in<'s, 'a>(parser: &'s mut Parser, bytes: &'a [u8], mode: Mod
 // One call over a lent parser, read as the Rust reads.
 pub fn parse_frame<'s, 'a>(parser: &'s mut Parser, bytes: &'a [u8]) -> Frame<'a>
     ensures { Framed Rust parser.old bytes.now result.outcome result.header result.bitstream.now
-        parser.new × (result.bitstream.ptr ≡ bytes.entry.ref_ptr) }
+        parser.new × (result.bitstream.ref_ptr ≡ bytes.entry.ref_ptr) }
 {
     parse_frame_in(parser, bytes, Mode::Rust)
 }
