@@ -1,33 +1,47 @@
-// Input and output of the programs: a text to standard output, and numbers and runs of bytes from standard input.
+// Input and output of the programs: a text to standard output, and numbers and runs of bytes from a reader.
 // No public function has a premise.
 #![tactic(auto)]
 
 ghost use Rattle.std.specs.Prelude.{◌≡◌, ◌<◌, ◌≤◌, ◌+◌, ◌*◌, get_or};
-ghost use Rattle.io.specs.Counts.{IsPrefixLen};
-ghost use Rattle.lines.specs.Read.{Below};
+ghost use Rattle.lines.specs.Read.{Below, IsPrefixLen};
+
+use std::io::Read;
 
 // The text to standard output; false where not all could be written.
-pub fn show(out: &[u8], n: usize) -> bool {
-    io::write_all(libc::STDOUT_FILENO, text::part(out, n))
+pub fn show(rt: &impl Print, out: &[u8], n: usize) -> bool {
+    rt.write_all(text::part(out, n)).is_ok()
 }
 
 // A line of its own.
-pub fn say(word: &[u8]) -> bool {
-    if io::write_all(libc::STDOUT_FILENO, word) {
-        io::write_all(libc::STDOUT_FILENO, b"\n")
-    } else {
-        false
+pub fn say(rt: &impl Print, word: &[u8]) -> bool {
+    rt.write_all(word).is_ok() && rt.write_all(b"\n").is_ok()
+}
+
+// Reads until buf is full, the input ends or a read fails; how many bytes came, to the start of buf.
+fn read_full(input: &mut impl Read, buf: &mut [u8]) -> usize
+    ensures { IsPrefixLen result buf.new }
+{
+    let mut done = 0;
+    while done < buf.len() {
+        let Ok(n) = input.read(&mut buf[done..]) else {
+            return done;
+        };
+        if n == 0 {
+            return done;
+        }
+        done += n;
     }
+    done
 }
 
 // Reads n bytes to the start of buf; fewer where buf is shorter or the input ends.
-pub fn take(buf: &mut [u8], n: usize) -> usize
+pub fn take(input: &mut impl Read, buf: &mut [u8], n: usize) -> usize
     ensures { (result ≤ n) × IsPrefixLen result buf.new }
 {
     if n < buf.len() {
-        io::read_full(libc::STDIN_FILENO, &mut buf[..n])
+        read_full(input, &mut buf[..n])
     } else {
-        io::read_full(libc::STDIN_FILENO, buf)
+        read_full(input, buf)
     }
 }
 
@@ -61,11 +75,11 @@ fn le4(b: &[u8; 4]) -> u32
 }
 
 // The next byte.
-pub fn take_byte() -> Number
+pub fn take_byte(input: &mut impl Read) -> Number
     ensures { Below 256 result }
 {
     let mut b = [0u8; 1];
-    let n = io::read_full(libc::STDIN_FILENO, &mut b);
+    let n = read_full(input, &mut b);
     if n == 0 {
         return Number::End;
     }
@@ -73,11 +87,11 @@ pub fn take_byte() -> Number
 }
 
 // The next two bytes.
-pub fn take_le2() -> Number
+pub fn take_le2(input: &mut impl Read) -> Number
     ensures { Below 65536 result }
 {
     let mut b = [0u8; 2];
-    let n = io::read_full(libc::STDIN_FILENO, &mut b);
+    let n = read_full(input, &mut b);
     if n == 0 {
         return Number::End;
     }
@@ -88,11 +102,11 @@ pub fn take_le2() -> Number
 }
 
 // The next four bytes.
-pub fn take_le4() -> Number
+pub fn take_le4(input: &mut impl Read) -> Number
     ensures { Below 4294967296 result }
 {
     let mut b = [0u8; 4];
-    let n = io::read_full(libc::STDIN_FILENO, &mut b);
+    let n = read_full(input, &mut b);
     if n == 0 {
         return Number::End;
     }
