@@ -3,8 +3,9 @@
 // wrong.
 #![tactic(auto)]
 
-ghost use Rattle.io.specs.Counts.{IsPrefixLen};
+ghost use Rattle.lines.specs.Read.{IsPrefixLen};
 
+use std::io::Read;
 use bool_script::engines::Engine;
 use bool_script::input::Came;
 use lines::Number;
@@ -35,33 +36,33 @@ fn ended(tally: Tally) -> Tally {
     }
 }
 
-fn wrong(tally: Tally, word: &[u8]) -> Tally {
-    lines::say(word);
+fn wrong(rt: &impl Print, tally: Tally, word: &[u8]) -> Tally {
+    lines::say(rt, word);
     ended(tally)
 }
 
 // A number between two words.
-fn tell(words: &[u8], n: u64, after: &[u8]) {
+fn tell(rt: &impl Print, words: &[u8], n: u64, after: &[u8]) {
     let mut out = [0u8; 64];
     let at = text::bytes(&mut out, 0, words);
     let to = text::decimal(&mut out, at, n);
     let end = text::bytes(&mut out, to, after);
-    lines::show(&out, end);
+    lines::show(rt, &out, end);
 }
 
 // Only the first twenty are told. Scripts are counted from 1.
-fn told(apart: u64, script: u64, engine: &[u8]) {
+fn told(rt: &impl Print, apart: u64, script: u64, engine: &[u8]) {
     if apart < 20 {
-        tell(b"apart: script ", script, engine);
+        tell(rt, b"apart: script ", script, engine);
     }
 }
 
 // How many lines are apart, with the line of one engine.
-fn count(apart: u64, script: u64, same: bool, engine: &[u8]) -> u64 {
+fn count(rt: &impl Print, apart: u64, script: u64, same: bool, engine: &[u8]) -> u64 {
     if same {
         return apart;
     }
-    told(apart, script, engine);
+    told(rt, apart, script, engine);
     wrapping_add_u64(apart, 1)
 }
 
@@ -70,13 +71,13 @@ fn same_line(area: &[u8], reads: &[u8], stored: &[u8], engine: Engine, out: &mut
     check::same(text::part(out, n), stored)
 }
 
-fn compare(tally: Tally, area: &[u8], reads: &[u8], stored: &[u8], out: &mut [u8]) -> Tally {
+fn compare(rt: &impl Print, tally: Tally, area: &[u8], reads: &[u8], stored: &[u8], out: &mut [u8]) -> Tally {
     let scripts = wrapping_add_u64(tally.scripts, 1);
     let operations = wrapping_add_u64(tally.operations, (reads.len() / 2) as u64);
     let window = same_line(area, reads, stored, Engine::Window, out);
     let slow = same_line(area, reads, stored, Engine::Slow, out);
-    let apart = count(tally.apart, scripts, window, b", the window\n");
-    let apart = count(apart, scripts, slow, b", the slow engine\n");
+    let apart = count(rt, tally.apart, scripts, window, b", the window\n");
+    let apart = count(rt, apart, scripts, slow, b", the slow engine\n");
     Tally {
         scripts,
         operations,
@@ -85,13 +86,13 @@ fn compare(tally: Tally, area: &[u8], reads: &[u8], stored: &[u8], out: &mut [u8
     }
 }
 
-fn take_stored(stored: &mut [u8]) -> Stored
+fn take_stored(input: &mut impl Read, stored: &mut [u8]) -> Stored
     ensures { IsPrefixLen result.count stored.new }
 {
-    match lines::take_le2() {
+    match lines::take_le2(input) {
         Number::Is(n) => {
             let wanted = n as usize;
-            let got = lines::take(stored, wanted);
+            let got = lines::take(input, stored, wanted);
             Stored {
                 whole: got == wanted,
                 count: got,
@@ -109,89 +110,89 @@ fn take_stored(stored: &mut [u8]) -> Stored
 }
 
 // In a list a script has to be there.
-fn whole(came: Came) -> bool {
+fn whole(rt: &impl Print, came: Came) -> bool {
     match came {
-        Came::End => bool_script::input::whole(Came::CutShort),
+        Came::End => bool_script::input::whole(rt, Came::CutShort),
         Came::Whole => true,
-        Came::TooLarge => bool_script::input::whole(Came::TooLarge),
-        Came::CutShort => bool_script::input::whole(Came::CutShort),
-        Came::BadKind => bool_script::input::whole(Came::BadKind),
+        Came::TooLarge => bool_script::input::whole(rt, Came::TooLarge),
+        Came::CutShort => bool_script::input::whole(rt, Came::CutShort),
+        Came::BadKind => bool_script::input::whole(rt, Came::BadKind),
     }
 }
 
-fn script(tally: Tally, out: &mut [u8]) -> Tally {
+fn script(rt: &impl Print, input: &mut impl Read, tally: Tally, out: &mut [u8]) -> Tally {
     let mut area = [0u8; 4096];
     let mut reads = [0u8; 2048];
-    let taken = bool_script::input::take(&mut area, &mut reads);
+    let taken = bool_script::input::take(input, &mut area, &mut reads);
     let came = taken.came;
     let size = taken.area;
     let count = taken.reads;
-    if !whole(came) {
+    if !whole(rt, came) {
         return ended(tally);
     }
     let mut stored = [0u8; 32768];
-    let line = take_stored(&mut stored);
+    let line = take_stored(input, &mut stored);
     let n = line.count;
     if !line.whole {
-        return wrong(tally, b"cut short");
+        return wrong(rt, tally, b"cut short");
     }
-    compare(tally, &area[..size], &reads[..count], &stored[..n], out)
+    compare(rt, tally, &area[..size], &reads[..count], &stored[..n], out)
 }
 
 // The number of the worked case that the script is stands before it, for readers; 0 for none.
-fn numbered(tally: Tally, out: &mut [u8]) -> Tally {
-    match lines::take_byte() {
-        Number::Is(_) => script(tally, out),
-        Number::End => wrong(tally, b"cut short"),
-        Number::Short => wrong(tally, b"cut short"),
+fn numbered(rt: &impl Print, input: &mut impl Read, tally: Tally, out: &mut [u8]) -> Tally {
+    match lines::take_byte(input) {
+        Number::Is(_) => script(rt, input, tally, out),
+        Number::End => wrong(rt, tally, b"cut short"),
+        Number::Short => wrong(rt, tally, b"cut short"),
     }
 }
 
-fn summary(tally: Tally) -> Tally {
-    tell(b"", tally.scripts, b" scripts, ");
-    tell(b"", tally.operations, b" operations, by both engines, ");
-    tell(b"", tally.apart, b" apart\n");
+fn summary(rt: &impl Print, tally: Tally) -> Tally {
+    tell(rt, b"", tally.scripts, b" scripts, ");
+    tell(rt, b"", tally.operations, b" operations, by both engines, ");
+    tell(rt, b"", tally.apart, b" apart\n");
     ended(tally)
 }
 
 // The number of scripts, and nothing after it.
-fn finish(tally: Tally, count: u32) -> Tally {
+fn finish(rt: &impl Print, input: &mut impl Read, tally: Tally, count: u32) -> Tally {
     if tally.scripts != count as u64 {
-        return wrong(tally, b"the list has another number of scripts");
+        return wrong(rt, tally, b"the list has another number of scripts");
     }
-    match lines::take_byte() {
-        Number::Is(_) => wrong(tally, b"more after the end"),
-        Number::End => summary(tally),
-        Number::Short => wrong(tally, b"cut short"),
-    }
-}
-
-fn last(tally: Tally) -> Tally {
-    match lines::take_le4() {
-        Number::Is(count) => finish(tally, count),
-        Number::End => wrong(tally, b"cut short"),
-        Number::Short => wrong(tally, b"cut short"),
+    match lines::take_byte(input) {
+        Number::Is(_) => wrong(rt, tally, b"more after the end"),
+        Number::End => summary(rt, tally),
+        Number::Short => wrong(rt, tally, b"cut short"),
     }
 }
 
-fn record(tally: Tally, out: &mut [u8]) -> Tally {
-    match lines::take_byte() {
+fn last(rt: &impl Print, input: &mut impl Read, tally: Tally) -> Tally {
+    match lines::take_le4(input) {
+        Number::Is(count) => finish(rt, input, tally, count),
+        Number::End => wrong(rt, tally, b"cut short"),
+        Number::Short => wrong(rt, tally, b"cut short"),
+    }
+}
+
+fn record(rt: &impl Print, input: &mut impl Read, tally: Tally, out: &mut [u8]) -> Tally {
+    match lines::take_byte(input) {
         Number::Is(kind) => {
             if kind == 2 {
-                return numbered(tally, out);
+                return numbered(rt, input, tally, out);
             }
             if kind == 0 {
-                return last(tally);
+                return last(rt, input, tally);
             }
-            wrong(tally, b"unknown record")
+            wrong(rt, tally, b"unknown record")
         }
-        Number::End => wrong(tally, b"cut short"),
-        Number::Short => wrong(tally, b"cut short"),
+        Number::End => wrong(rt, tally, b"cut short"),
+        Number::Short => wrong(rt, tally, b"cut short"),
     }
 }
 
 // Nothing says that the list ends, so the loop counts down from a number that no run uses up.
-fn records(out: &mut [u8]) {
+fn records(rt: &impl Print, input: &mut impl Read, out: &mut [u8]) {
     let mut tally = Tally {
         scripts: 0,
         operations: 0,
@@ -200,18 +201,19 @@ fn records(out: &mut [u8]) {
     };
     let mut left = u64::MAX;
     while left > 0 && tally.more {
-        tally = record(tally, out);
+        tally = record(rt, input, tally, out);
         left -= 1;
     }
 }
 
-fn main() {
+fn main(rt: HostRuntime) {
+    let mut input = rt.reader();
     let mut head = [0u8; 8];
-    let got = lines::take(&mut head, 8);
+    let got = lines::take(&mut input, &mut head, 8);
     if !check::same(&head[..got], b"SBBOOLS1") {
-        lines::say(b"not a list of scripts");
+        lines::say(&rt, b"not a list of scripts");
         return;
     }
     let mut out = [0u8; 32768];
-    records(&mut out);
+    records(&rt, &mut input, &mut out);
 }

@@ -1,11 +1,12 @@
 // A script from standard input: a 4-byte little-endian area length (at most 4,096), the area, a 2-byte number of reads (at most 1,024),
 // and 2 bytes a read.
 ghost use Rattle.std.specs.Prelude.{◌≡◌};
-ghost use Rattle.io.specs.Counts.{IsPrefixLen};
+ghost use Rattle.lines.specs.Read.{IsPrefixLen};
 ghost use Rattle.bool_script.specs.Input.{is_whole};
 
 use crate::kinds_known;
 use lines::Number;
+use std::io::Read;
 
 // How the input goes on: by a whole script, by its end, or by a fault.
 #[derive(Clone, Copy)]
@@ -40,7 +41,7 @@ struct Reads {
     count: usize,
 }
 
-fn take_reads(reads: &mut [u8], count: u32) -> Reads
+fn take_reads(input: &mut impl Read, reads: &mut [u8], count: u32) -> Reads
     ensures { IsPrefixLen result.count reads.new }
 {
     if 1024 < count {
@@ -50,7 +51,7 @@ fn take_reads(reads: &mut [u8], count: u32) -> Reads
         };
     }
     let wanted = (count * 2) as usize;
-    let got = lines::take(reads, wanted);
+    let got = lines::take(input, reads, wanted);
     if got < wanted {
         return Reads {
             came: Came::CutShort,
@@ -70,11 +71,11 @@ fn take_reads(reads: &mut [u8], count: u32) -> Reads
     }
 }
 
-fn take_count(reads: &mut [u8]) -> Reads
+fn take_count(input: &mut impl Read, reads: &mut [u8]) -> Reads
     ensures { IsPrefixLen result.count reads.new }
 {
-    match lines::take_le2() {
-        Number::Is(count) => take_reads(reads, count),
+    match lines::take_le2(input) {
+        Number::Is(count) => take_reads(input, reads, count),
         Number::End => Reads {
             came: Came::CutShort,
             count: 0,
@@ -86,7 +87,7 @@ fn take_count(reads: &mut [u8]) -> Reads
     }
 }
 
-fn take_rest(area: &mut [u8], reads: &mut [u8], size: u32) -> Script
+fn take_rest(input: &mut impl Read, area: &mut [u8], reads: &mut [u8], size: u32) -> Script
     ensures { IsPrefixLen result.area area.new × IsPrefixLen result.reads reads.new }
 {
     if 4096 < size {
@@ -97,7 +98,7 @@ fn take_rest(area: &mut [u8], reads: &mut [u8], size: u32) -> Script
         };
     }
     let wanted = size as usize;
-    let got = lines::take(area, wanted);
+    let got = lines::take(input, area, wanted);
     if got < wanted {
         return Script {
             came: Came::CutShort,
@@ -105,7 +106,7 @@ fn take_rest(area: &mut [u8], reads: &mut [u8], size: u32) -> Script
             reads: 0,
         };
     }
-    let rest = take_count(reads);
+    let rest = take_count(input, reads);
     let came = rest.came;
     Script {
         came,
@@ -115,11 +116,11 @@ fn take_rest(area: &mut [u8], reads: &mut [u8], size: u32) -> Script
 }
 
 // The next script, to the start of `area` and of `reads`.
-pub fn take(area: &mut [u8], reads: &mut [u8]) -> Script
+pub fn take(input: &mut impl Read, area: &mut [u8], reads: &mut [u8]) -> Script
     ensures { IsPrefixLen result.area area.new × IsPrefixLen result.reads reads.new }
 {
-    match lines::take_le4() {
-        Number::Is(size) => take_rest(area, reads, size),
+    match lines::take_le4(input) {
+        Number::Is(size) => take_rest(input, area, reads, size),
         Number::End => Script {
             came: Came::End,
             area: 0,
@@ -134,22 +135,22 @@ pub fn take(area: &mut [u8], reads: &mut [u8]) -> Script
 }
 
 // Whether a whole script came; a fault gets a line that says what is wrong.
-pub fn whole(came: Came) -> bool
+pub fn whole(rt: &impl Print, came: Came) -> bool
     ensures { result ≡ is_whole came }
 {
     match came {
         Came::Whole => true,
         Came::End => false,
         Came::TooLarge => {
-            lines::say(b"too large");
+            lines::say(rt, b"too large");
             false
         }
         Came::CutShort => {
-            lines::say(b"cut short");
+            lines::say(rt, b"cut short");
             false
         }
         Came::BadKind => {
-            lines::say(b"bad kind");
+            lines::say(rt, b"bad kind");
             false
         }
     }

@@ -3,6 +3,7 @@
 // 1,000,000 and 2,000,000 and on before the walk. A bad record gets a line that says what is wrong, and ends the run.
 #![tactic(auto)]
 
+use std::io::Read;
 use ivf::Walked;
 use lines::Number;
 
@@ -58,7 +59,7 @@ fn put_lengths(out: &mut [u8], at: usize, lengths: &[u32]) -> usize {
 }
 
 // The line of an answer; false where not all could be written.
-fn tell(walked: Walked, offsets: &[u64], lengths: &[u32]) -> bool {
+fn tell(rt: &impl Print, walked: Walked, offsets: &[u64], lengths: &[u32]) -> bool {
     let mut out = [0u8; 4096];
     let ended = walked.ended;
     let to = text::bytes(&mut out, 0, b"count");
@@ -68,41 +69,40 @@ fn tell(walked: Walked, offsets: &[u64], lengths: &[u32]) -> bool {
     let to = put_offsets(&mut out, to, offsets);
     let to = put_lengths(&mut out, to, lengths);
     let to = text::byte(&mut out, to, b'\n');
-    lines::show(&out, to)
+    lines::show(rt, &out, to)
 }
 
 // The walk into these lists, and its line.
-fn walk(file: &[u8], offsets: &mut [u64], lengths: &mut [u32]) -> bool {
+fn walk(rt: &impl Print, file: &[u8], offsets: &mut [u64], lengths: &mut [u32]) -> bool {
     fill_offsets(offsets);
     fill_lengths(lengths);
     let walked = ivf::walk(file, offsets, lengths);
-    tell(walked, offsets, lengths)
+    tell(rt, walked, offsets, lengths)
 }
 
-fn wrong(word: &[u8]) -> bool {
-    lines::say(word);
+fn wrong(rt: &impl Print, word: &[u8]) -> bool {
+    lines::say(rt, word);
     false
 }
 
 // Lists of these lengths, of the entries that there are.
-fn lists(
-    file: &[u8],
+fn lists(rt: &impl Print, file: &[u8],
     offsets: &mut [u64],
     lengths: &mut [u32],
     of_offsets: usize,
     of_lengths: usize,
 ) -> bool {
     if offsets.len() < of_offsets {
-        return wrong(b"too large");
+        return wrong(rt, b"too large");
     }
     if lengths.len() < of_lengths {
-        return wrong(b"too large");
+        return wrong(rt, b"too large");
     }
-    walk(file, &mut offsets[..of_offsets], &mut lengths[..of_lengths])
+    walk(rt, file, &mut offsets[..of_offsets], &mut lengths[..of_lengths])
 }
 
-fn next_byte() -> usize {
-    match lines::take_byte() {
+fn next_byte(input: &mut impl Read) -> usize {
+    match lines::take_byte(input) {
         Number::Is(n) => n as usize,
         Number::End => 256,
         Number::Short => 256,
@@ -110,42 +110,43 @@ fn next_byte() -> usize {
 }
 
 // One record; false where there is no other.
-fn record(file: &mut [u8], offsets: &mut [u64], lengths: &mut [u32]) -> bool {
-    let of_offsets = next_byte();
+fn record(rt: &impl Print, input: &mut impl Read, file: &mut [u8], offsets: &mut [u64], lengths: &mut [u32]) -> bool {
+    let of_offsets = next_byte(input);
     if of_offsets == 256 {
         return false;
     }
-    let of_lengths = next_byte();
-    match lines::take_le4() {
+    let of_lengths = next_byte(input);
+    match lines::take_le4(input) {
         Number::Is(size) => {
             if 65536 < size {
-                return wrong(b"too large");
+                return wrong(rt, b"too large");
             }
             let wanted = size as usize;
-            let got = lines::take(file, wanted);
+            let got = lines::take(input, file, wanted);
             if got < wanted {
-                return wrong(b"cut short");
+                return wrong(rt, b"cut short");
             }
-            lists(&file[..got], offsets, lengths, of_offsets, of_lengths)
+            lists(rt, &file[..got], offsets, lengths, of_offsets, of_lengths)
         }
-        Number::End => wrong(b"cut short"),
-        Number::Short => wrong(b"cut short"),
+        Number::End => wrong(rt, b"cut short"),
+        Number::Short => wrong(rt, b"cut short"),
     }
 }
 
 // Nothing says that the input ends, so the loop counts down from a number that no run uses up.
-fn records(file: &mut [u8], offsets: &mut [u64], lengths: &mut [u32]) {
+fn records(rt: &impl Print, input: &mut impl Read, file: &mut [u8], offsets: &mut [u64], lengths: &mut [u32]) {
     let mut left = u64::MAX;
     let mut more = true;
     while left > 0 && more {
-        more = record(file, offsets, lengths);
+        more = record(rt, input, file, offsets, lengths);
         left -= 1;
     }
 }
 
-fn main() {
+fn main(rt: HostRuntime) {
+    let mut input = rt.reader();
     let mut file = [0u8; 65536];
     let mut offsets = [0u64; 64];
     let mut lengths = [0u32; 64];
-    records(&mut file, &mut offsets, &mut lengths);
+    records(&rt, &mut input, &mut file, &mut offsets, &mut lengths);
 }

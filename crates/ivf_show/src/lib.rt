@@ -12,8 +12,7 @@ use ivf::Ended;
 use vp8_records::{Mode, Parser};
 
 // The first `count` listed frames, each to the parser that the one before left, and its lines; the parser after all of them.
-fn tell_frames(
-    parser: Parser,
+fn tell_frames(rt: &impl Print, parser: Parser,
     file: &[u8],
     offsets: &[u64],
     lengths: &[u32],
@@ -29,7 +28,7 @@ fn tell_frames(
     while i < count {
         let bytes = vp8_recording::frame_at(file, offsets[i], lengths[i]);
         let answer = vp8_parser::parse_in(state, bytes, mode);
-        vp8_show::print::tell_numbered(i as u64, answer);
+        vp8_show::print::tell_numbered(rt, i as u64, answer);
         let next = answer.parser;
         state = next;
         i += 1;
@@ -37,23 +36,24 @@ fn tell_frames(
     state
 }
 
-fn tell_refusal(ended: Ended) {
+fn tell_refusal(rt: &impl Print, ended: Ended) {
     let number = ended.number();
     if number != 0 {
         let mut out = [0u8; 16];
         let to = text::bytes(&mut out, 0, b"refused ");
         let to = text::decimal(&mut out, to, number as u64);
         let to = text::byte(&mut out, to, b'\n');
-        lines::show(&out, to);
+        lines::show(rt, &out, to);
     }
 }
 
 // The whole program, in a mode. Lists of 5,458 entries have room for every frame of such a file: a record has 12 bytes at least.
-pub fn run(mode: Mode) {
+pub fn run(rt: &(impl Input + Print), mode: Mode) {
+    let mut input = rt.reader();
     let mut file = [0u8; 65537];
-    let n = lines::take(&mut file, 65537);
+    let n = lines::take(&mut input, &mut file, 65537);
     if 65536 < n {
-        lines::say(b"too large");
+        lines::say(rt, b"too large");
         return;
     }
     let mut offsets = [0u64; 5458];
@@ -62,6 +62,6 @@ pub fn run(mode: Mode) {
     let count = walked.count;
     let ended = walked.ended;
     let fresh = Parser::new();
-    tell_frames(fresh, &file[..n], &offsets, &lengths, count, mode);
-    tell_refusal(ended);
+    tell_frames(rt, fresh, &file[..n], &offsets, &lengths, count, mode);
+    tell_refusal(rt, ended);
 }

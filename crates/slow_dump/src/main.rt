@@ -3,6 +3,6 @@
 
 use bool_script::engines::Engine;
 
-fn main() {
-    bool_script::program::run(Engine::Slow);
+fn main(rt: HostRuntime) {
+    bool_script::program::run(&rt, Engine::Slow);
 }

@@ -3,6 +3,7 @@
 // a line that says what is wrong, and ends the run.
 #![tactic(auto)]
 
+use std::io::Read;
 use vp8_records::{Mode, Parser};
 use vp8_show::input::Came;
 
@@ -31,23 +32,23 @@ fn ended(run: Run) -> Run {
     last
 }
 
-fn wrong(run: Run, word: &[u8]) -> Run {
-    lines::say(word);
+fn wrong(rt: &impl Print, run: Run, word: &[u8]) -> Run {
+    lines::say(rt, word);
     ended(run)
 }
 
 // The text as a line; false where not all could be written.
-fn line(out: &mut [u8], end: usize) -> bool {
+fn line(rt: &impl Print, out: &mut [u8], end: usize) -> bool {
     let after = text::byte(out, end, b'\n');
-    lines::show(out, after)
+    lines::show(rt, out, after)
 }
 
 // A frame and its line.
-fn frame(run: Run, bytes: &[u8], out: &mut [u8]) -> Run {
+fn frame(rt: &impl Print, run: Run, bytes: &[u8], out: &mut [u8]) -> Run {
     let mode = run.mode;
     let parsed = vp8_parser::parse_in(run.parser, bytes, mode);
     let end = vp8_show::dump::line(out, 0, parsed);
-    let more = line(out, end);
+    let more = line(rt, out, end);
     let parser = parsed.parser;
     Run {
         parser,
@@ -58,11 +59,11 @@ fn frame(run: Run, bytes: &[u8], out: &mut [u8]) -> Run {
 }
 
 // A frame that is only looked at, and its line.
-fn look(run: Run, bytes: &[u8], out: &mut [u8]) -> Run {
+fn look(rt: &impl Print, run: Run, bytes: &[u8], out: &mut [u8]) -> Run {
     let end = vp8_show::dump::look(out, 0, vp8_parser::peek(bytes));
     let mut after = run;
     after.looks = false;
-    after.more = line(out, end);
+    after.more = line(rt, out, end);
     after
 }
 
@@ -84,44 +85,45 @@ fn looking(run: Run) -> Run {
     after
 }
 
-fn record(run: Run, buffer: &mut [u8], out: &mut [u8]) -> Run {
+fn record(rt: &impl Print, input: &mut impl Read, run: Run, buffer: &mut [u8], out: &mut [u8]) -> Run {
     let mode = run.mode;
-    let taken = vp8_show::input::take(buffer);
+    let taken = vp8_show::input::take(input, buffer);
     let came = taken.came;
     let count = taken.count;
     match came {
         Came::Frame => {
             if run.looks {
-                return look(run, &buffer[..count], out);
+                return look(rt, run, &buffer[..count], out);
             }
-            frame(run, &buffer[..count], out)
+            frame(rt, run, &buffer[..count], out)
         }
         Came::Fresh => fresh(mode, run.looks),
         Came::In(other) => switched(run, other),
         Came::Look => looking(run),
         Came::End => {
             if run.looks {
-                return wrong(run, b"cut short");
+                return wrong(rt, run, b"cut short");
             }
             ended(run)
         }
-        Came::TooLarge => wrong(run, b"too large"),
-        Came::CutShort => wrong(run, b"cut short"),
+        Came::TooLarge => wrong(rt, run, b"too large"),
+        Came::CutShort => wrong(rt, run, b"cut short"),
     }
 }
 
 // Nothing says that the input ends, so the loop counts down from a number that no run uses up.
-fn records(buffer: &mut [u8], out: &mut [u8]) {
+fn records(rt: &impl Print, input: &mut impl Read, buffer: &mut [u8], out: &mut [u8]) {
     let mut run = fresh(Mode::Rust, false);
     let mut left = u64::MAX;
     while left > 0 && run.more {
-        run = record(run, buffer, out);
+        run = record(rt, input, run, buffer, out);
         left -= 1;
     }
 }
 
-fn main() {
+fn main(rt: HostRuntime) {
+    let mut input = rt.reader();
     let mut buffer = [0u8; 65536];
     let mut out = [0u8; 8192];
-    records(&mut buffer, &mut out);
+    records(&rt, &mut input, &mut buffer, &mut out);
 }

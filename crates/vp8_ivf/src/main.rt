@@ -3,6 +3,6 @@
 
 use vp8_records::Mode;
 
-fn main() {
-    ivf_show::run(Mode::Rust);
+fn main(rt: HostRuntime) {
+    ivf_show::run(&rt, Mode::Rust);
 }

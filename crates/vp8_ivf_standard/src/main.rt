@@ -3,6 +3,6 @@
 
 use vp8_records::Mode;
 
-fn main() {
-    ivf_show::run(Mode::Standard);
+fn main(rt: HostRuntime) {
+    ivf_show::run(&rt, Mode::Standard);
 }

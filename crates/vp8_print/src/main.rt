@@ -3,12 +3,13 @@
 
 use vp8_records::Parser;
 
-fn main() {
+fn main(rt: HostRuntime) {
+    let mut input = rt.reader();
     let mut frame = [0u8; 65537];
-    let n = lines::take(&mut frame, 65537);
+    let n = lines::take(&mut input, &mut frame, 65537);
     if 65536 < n {
-        lines::say(b"too large");
+        lines::say(&rt, b"too large");
         return;
     }
-    vp8_show::print::tell(vp8_parser::parse(Parser::new(), &frame[..n]));
+    vp8_show::print::tell(&rt, vp8_parser::parse(Parser::new(), &frame[..n]));
 }

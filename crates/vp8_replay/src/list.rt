@@ -1,23 +1,24 @@
 // The stored list, read piece by piece (tests/fixed/README.md). An answer of false means that the list is cut short or has an index that
 // is too large. What stands in the lent arrays afterwards is what the C library read, which no contract can name.
+use std::io::Read;
 use lines::Number;
 
-fn number(width: u8) -> Number {
+fn number(input: &mut impl Read, width: u8) -> Number {
     if width == 1 {
-        return lines::take_byte();
+        return lines::take_byte(input);
     }
     if width == 2 {
-        return lines::take_le2();
+        return lines::take_le2(input);
     }
-    lines::take_le4()
+    lines::take_le4(input)
 }
 
 // One number to its place.
-fn place(to: &mut [u32], i: usize, width: u8) -> bool {
+fn place(input: &mut impl Read, to: &mut [u32], i: usize, width: u8) -> bool {
     if to.len() <= i {
         return false;
     }
-    match number(width) {
+    match number(input, width) {
         Number::Is(n) => {
             to[i] = n;
             true
@@ -28,10 +29,10 @@ fn place(to: &mut [u32], i: usize, width: u8) -> bool {
 }
 
 // Numbers of 1, 2 or 4 bytes, as the widths say.
-pub fn numbers(to: &mut [u32], widths: &[u8]) -> bool {
+pub fn numbers(input: &mut impl Read, to: &mut [u32], widths: &[u8]) -> bool {
     let mut i = 0;
     while i < widths.len() {
-        if !place(to, i, widths[i]) {
+        if !place(input, to, i, widths[i]) {
             return false;
         }
         i += 1;
@@ -43,11 +44,11 @@ fn low(n: u32) -> u8 {
     (n % 256) as u8
 }
 
-fn change_at(on: &mut [u8], at: usize) -> bool {
+fn change_at(input: &mut impl Read, on: &mut [u8], at: usize) -> bool {
     if on.len() <= at {
         return false;
     }
-    match lines::take_byte() {
+    match lines::take_byte(input) {
         Number::Is(n) => {
             on[at] = low(n);
             true
@@ -58,18 +59,18 @@ fn change_at(on: &mut [u8], at: usize) -> bool {
 }
 
 // An index and the new number there.
-fn change(on: &mut [u8]) -> bool {
-    match lines::take_le2() {
-        Number::Is(at) => change_at(on, at as usize),
+fn change(input: &mut impl Read, on: &mut [u8]) -> bool {
+    match lines::take_le2(input) {
+        Number::Is(at) => change_at(input, on, at as usize),
         Number::End => false,
         Number::Short => false,
     }
 }
 
-fn changes(on: &mut [u8], count: u32) -> bool {
+fn changes(input: &mut impl Read, on: &mut [u8], count: u32) -> bool {
     let mut left = count;
     while left > 0 {
-        if !change(on) {
+        if !change(input, on) {
             return false;
         }
         left -= 1;
@@ -78,9 +79,9 @@ fn changes(on: &mut [u8], count: u32) -> bool {
 }
 
 // A count, and that many changes.
-pub fn patch(on: &mut [u8]) -> bool {
-    match lines::take_le2() {
-        Number::Is(count) => changes(on, count),
+pub fn patch(input: &mut impl Read, on: &mut [u8]) -> bool {
+    match lines::take_le2(input) {
+        Number::Is(count) => changes(input, on, count),
         Number::End => false,
         Number::Short => false,
     }

@@ -7,6 +7,7 @@ mod list;
 
 ghost use Rattle.std.specs.Prelude.{◌≤◌};
 
+use std::io::Read;
 use lines::Number;
 use std::num::wrapping_add_u64;
 use vp8_compare::{Found, Place};
@@ -46,8 +47,8 @@ fn ended(tally: Tally) -> Tally {
     }
 }
 
-fn wrong(replay: Replay, word: &[u8]) -> Replay {
-    lines::say(word);
+fn wrong(rt: &impl Print, replay: Replay, word: &[u8]) -> Replay {
+    lines::say(rt, word);
     let parser = replay.parser;
     let tally = ended(replay.tally);
     Replay { parser, tally }
@@ -58,36 +59,36 @@ fn wide(n: u32) -> u64 {
 }
 
 // These words, and a number after them.
-fn tell(words: &[u8], n: u64, after: &[u8]) {
+fn tell(rt: &impl Print, words: &[u8], n: u64, after: &[u8]) {
     let mut out = [0u8; 64];
     let at = text::bytes(&mut out, 0, words);
     let to = text::decimal(&mut out, at, n);
     let end = text::bytes(&mut out, to, after);
-    lines::show(&out, end);
+    lines::show(rt, &out, end);
 }
 
-fn tell_found(found: Found) {
+fn tell_found(rt: &impl Print, found: Found) {
     match found {
         Found::Same => {}
         Found::Refusal => {
-            lines::say(b"the refusal");
+            lines::say(rt, b"the refusal");
         }
         Found::Carried => {
-            lines::say(b"what the refusal carries");
+            lines::say(rt, b"what the refusal carries");
         }
-        Found::Number(n) => tell(b"header number ", n as u64, b"\n"),
-        Found::Probability(n) => tell(b"header probability ", n as u64, b"\n"),
-        Found::Kept(n) => tell(b"kept number ", n as u64, b"\n"),
+        Found::Number(n) => tell(rt, b"header number ", n as u64, b"\n"),
+        Found::Probability(n) => tell(rt, b"header probability ", n as u64, b"\n"),
+        Found::Kept(n) => tell(rt, b"kept number ", n as u64, b"\n"),
     }
 }
 
 // Sequences and frames are counted from 1, numbers and probabilities from 0. Only the first twenty are told.
-fn tell_apart(tally: Tally, case: u32, found: Found) {
+fn tell_apart(rt: &impl Print, tally: Tally, case: u32, found: Found) {
     if tally.apart < 20 {
-        tell(b"apart: sequence ", tally.sequences, b"");
-        tell(b" frame ", tally.within, b"");
-        tell(b" case ", case as u64, b": ");
-        tell_found(found);
+        tell(rt, b"apart: sequence ", tally.sequences, b"");
+        tell(rt, b" frame ", tally.within, b"");
+        tell(rt, b" case ", case as u64, b": ");
+        tell_found(rt, found);
     }
 }
 
@@ -120,39 +121,38 @@ fn one_more(tally: Tally) -> Tally {
     }
 }
 
-fn judged(tally: Tally, case: u32, found: Found) -> Tally {
+fn judged(rt: &impl Print, tally: Tally, case: u32, found: Found) -> Tally {
     let now = one_more(tally);
     let same = is_same(found);
     if !same {
-        tell_apart(now, case, found);
+        tell_apart(rt, now, case, found);
     }
     counted(now, same)
 }
 
 // An accepted frame's header: its numbers, and the changed probabilities.
-fn take_header(numbers: &mut [u32; 51], probs: &mut [u8]) -> bool {
-    if list::numbers(numbers, &WIDTHS) {
-        list::patch(probs)
+fn take_header(input: &mut impl Read, numbers: &mut [u32; 51], probs: &mut [u8]) -> bool {
+    if list::numbers(input, numbers, &WIDTHS) {
+        list::patch(input, probs)
     } else {
         false
     }
 }
 
 // The stored answer: the refusal with what it carries, an accepted frame's header, the kept numbers.
-fn take_answer(
-    given: &mut [u32; 3],
+fn take_answer(input: &mut impl Read, given: &mut [u32; 3],
     numbers: &mut [u32; 51],
     probs: &mut [u8],
     kept: &mut [u8],
 ) -> bool {
-    if !list::numbers(given, &[1u8, 4, 4]) {
+    if !list::numbers(input, given, &[1u8, 4, 4]) {
         return false;
     }
     if given[0] != 0 {
-        return list::patch(kept);
+        return list::patch(input, kept);
     }
-    if take_header(numbers, probs) {
-        list::patch(kept)
+    if take_header(input, numbers, probs) {
+        list::patch(input, kept)
     } else {
         false
     }
@@ -170,8 +170,7 @@ fn compared(
 }
 
 // The answer to one frame, held against the stored one.
-fn frame(
-    replay: Replay,
+fn frame(rt: &impl Print, input: &mut impl Read, replay: Replay,
     mode: Mode,
     case: u32,
     bytes: &[u8],
@@ -180,19 +179,18 @@ fn frame(
 ) -> Replay {
     let mut given = [0u32; 3];
     let mut numbers = [0u32; 51];
-    if !take_answer(&mut given, &mut numbers, probs, kept) {
-        return wrong(replay, b"an answer that is cut short or has a wrong index");
+    if !take_answer(input, &mut given, &mut numbers, probs, kept) {
+        return wrong(rt, replay, b"an answer that is cut short or has a wrong index");
     }
     let parsed = vp8_parser::parse_in(replay.parser, bytes, mode);
     let found = compared(parsed, &given, &numbers, probs, kept);
-    let tally = judged(replay.tally, case, found);
+    let tally = judged(rt, replay.tally, case, found);
     let parser = parsed.parser;
     Replay { parser, tally }
 }
 
 // A frame has to be there, with its whole bytes.
-fn framed(
-    replay: Replay,
+fn framed(rt: &impl Print, input: &mut impl Read, replay: Replay,
     mode: Mode,
     case: u32,
     size: u32,
@@ -200,27 +198,27 @@ fn framed(
     kept: &mut [u8],
 ) -> Replay {
     let mut buffer = [0u8; 65536];
-    let taken = vp8_show::input::take_frame(&mut buffer, size);
+    let taken = vp8_show::input::take_frame(input, &mut buffer, size);
     let came = taken.came;
     let count = taken.count;
     match came {
-        Came::Frame => frame(replay, mode, case, &buffer[..count], probs, kept),
-        Came::TooLarge => wrong(replay, b"too large"),
-        Came::Fresh => wrong(replay, b"cut short"),
-        Came::In(_) => wrong(replay, b"cut short"),
-        Came::Look => wrong(replay, b"cut short"),
-        Came::End => wrong(replay, b"cut short"),
-        Came::CutShort => wrong(replay, b"cut short"),
+        Came::Frame => frame(rt, input, replay, mode, case, &buffer[..count], probs, kept),
+        Came::TooLarge => wrong(rt, replay, b"too large"),
+        Came::Fresh => wrong(rt, replay, b"cut short"),
+        Came::In(_) => wrong(rt, replay, b"cut short"),
+        Came::Look => wrong(rt, replay, b"cut short"),
+        Came::End => wrong(rt, replay, b"cut short"),
+        Came::CutShort => wrong(rt, replay, b"cut short"),
     }
 }
 
 // The number of the worked case that the frame is, 0 for none, and its length stand first.
-fn numbered(replay: Replay, mode: Mode, probs: &mut [u8], kept: &mut [u8]) -> Replay {
+fn numbered(rt: &impl Print, input: &mut impl Read, replay: Replay, mode: Mode, probs: &mut [u8], kept: &mut [u8]) -> Replay {
     let mut first = [0u32; 2];
-    if !list::numbers(&mut first, &[1u8, 4]) {
-        return wrong(replay, b"cut short");
+    if !list::numbers(input, &mut first, &[1u8, 4]) {
+        return wrong(rt, replay, b"cut short");
     }
-    framed(replay, mode, first[0], first[1], probs, kept)
+    framed(rt, input, replay, mode, first[0], first[1], probs, kept)
 }
 
 fn least(a: usize, b: usize) -> usize
@@ -245,60 +243,60 @@ fn sequence(tally: Tally, fresh: &[u8], probs: &mut [u8], kept: &mut [u8]) -> Re
     Replay { parser, tally }
 }
 
-fn summary(replay: Replay) -> Replay {
+fn summary(rt: &impl Print, replay: Replay) -> Replay {
     let tally = replay.tally;
-    tell(b"", tally.sequences, b" sequences, ");
-    tell(b"", tally.frames, b" frames, ");
-    tell(b"", tally.apart, b" apart\n");
+    tell(rt, b"", tally.sequences, b" sequences, ");
+    tell(rt, b"", tally.frames, b" frames, ");
+    tell(rt, b"", tally.apart, b" apart\n");
     let parser = replay.parser;
     let tally = ended(tally);
     Replay { parser, tally }
 }
 
 // Nothing may follow the end.
-fn finish(replay: Replay) -> Replay {
-    match lines::take_byte() {
-        Number::Is(_) => wrong(replay, b"more after the end"),
-        Number::End => summary(replay),
-        Number::Short => wrong(replay, b"cut short"),
+fn finish(rt: &impl Print, input: &mut impl Read, replay: Replay) -> Replay {
+    match lines::take_byte(input) {
+        Number::Is(_) => wrong(rt, replay, b"more after the end"),
+        Number::End => summary(rt, replay),
+        Number::Short => wrong(rt, replay, b"cut short"),
     }
 }
 
 // The numbers of sequences and of frames.
-fn last(replay: Replay) -> Replay {
+fn last(rt: &impl Print, input: &mut impl Read, replay: Replay) -> Replay {
     let mut counts = [0u32; 2];
-    if !list::numbers(&mut counts, &[4u8, 4]) {
-        return wrong(replay, b"cut short");
+    if !list::numbers(input, &mut counts, &[4u8, 4]) {
+        return wrong(rt, replay, b"cut short");
     }
     let tally = replay.tally;
     if tally.sequences != wide(counts[0]) {
-        return wrong(replay, b"the list has another number of sequences");
+        return wrong(rt, replay, b"the list has another number of sequences");
     }
     if tally.frames != wide(counts[1]) {
-        return wrong(replay, b"the list has another number of frames");
+        return wrong(rt, replay, b"the list has another number of frames");
     }
-    finish(replay)
+    finish(rt, input, replay)
 }
 
-fn record(replay: Replay, fresh: &[u8], probs: &mut [u8], kept: &mut [u8]) -> Replay {
-    match lines::take_byte() {
+fn record(rt: &impl Print, input: &mut impl Read, replay: Replay, fresh: &[u8], probs: &mut [u8], kept: &mut [u8]) -> Replay {
+    match lines::take_byte(input) {
         Number::Is(kind) => {
             if kind == 1 {
                 return sequence(replay.tally, fresh, probs, kept);
             }
             if kind == 2 {
-                return numbered(replay, Mode::Rust, probs, kept);
+                return numbered(rt, input, replay, Mode::Rust, probs, kept);
             }
             if kind == 3 {
-                return numbered(replay, Mode::Standard, probs, kept);
+                return numbered(rt, input, replay, Mode::Standard, probs, kept);
             }
             if kind == 0 {
-                return last(replay);
+                return last(rt, input, replay);
             }
-            wrong(replay, b"unknown record")
+            wrong(rt, replay, b"unknown record")
         }
-        Number::End => wrong(replay, b"cut short"),
-        Number::Short => wrong(replay, b"cut short"),
+        Number::End => wrong(rt, replay, b"cut short"),
+        Number::Short => wrong(rt, replay, b"cut short"),
     }
 }
 
@@ -315,34 +313,35 @@ fn none_yet() -> Replay {
 }
 
 // Nothing says that the list ends, so the loop counts down from a number that no run uses up.
-fn records(fresh: &[u8], probs: &mut [u8], kept: &mut [u8]) {
+fn records(rt: &impl Print, input: &mut impl Read, fresh: &[u8], probs: &mut [u8], kept: &mut [u8]) {
     let mut replay = none_yet();
     let mut left = u64::MAX;
     while left > 0 && replay.tally.more {
-        replay = record(replay, fresh, probs, kept);
+        replay = record(rt, input, replay, fresh, probs, kept);
         left -= 1;
     }
 }
 
 // The list's head: eight letters, and the kept numbers of a fresh parser.
-fn main() {
+fn main(rt: HostRuntime) {
+    let mut input = rt.reader();
     let mut head = [0u8; 8];
-    let got = lines::take(&mut head, 8);
+    let got = lines::take(&mut input, &mut head, 8);
     if !check::same(&head[..got], b"SBFRAME2") {
-        lines::say(b"not a list of frames");
+        lines::say(&rt, b"not a list of frames");
         return;
     }
     let mut fresh = [0u8; 1126];
-    if lines::take(&mut fresh, 1126) < 1126 {
-        lines::say(b"cut short");
+    if lines::take(&mut input, &mut fresh, 1126) < 1126 {
+        lines::say(&rt, b"cut short");
         return;
     }
     match vp8_compare::fresh_apart(&fresh) {
-        Place::At(i) => tell(b"a fresh parser keeps another number ", i as u64, b"\n"),
+        Place::At(i) => tell(&rt, b"a fresh parser keeps another number ", i as u64, b"\n"),
         Place::Nowhere => {
             let mut probs = [0u8; 1101];
             let mut kept = [0u8; 1126];
-            records(&fresh, &mut probs, &mut kept);
+            records(&rt, &mut input, &fresh, &mut probs, &mut kept);
         }
     }
 }

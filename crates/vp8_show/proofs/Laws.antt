@@ -131,12 +131,10 @@ pub look_seen : (template word code : List ℕ) (r : Peeked) (l : Look) (ns : Li
 unfolding look_text
 look_seen template word code r l ns e d = rw (e, d)
 
-pub look_short : (template word code : List ℕ) (r : Peeked) → tag_of the_type r ≡ 1
+pub look_short : (template word code : List ℕ) (r : Peeked) → r ≡ TooShort
     → refusal_text word code [] [] ChunkTooShort ≡ look_text template word code r
 unfolding look_text
-look_short template word code (Seen l) e = absurd (omega (arith, e))
-look_short template word code TooShort e = refl
-look_short template word code (StartCode n) e = absurd (omega (arith, e))
+look_short template word code r e = rw e
 
 pub look_code : (template word code : List ℕ) (r : Peeked) (n : ℕ) → r ≡ StartCode n
     → refusal_text word code [] [] (InvalidStartCode n) ≡ look_text template word code r

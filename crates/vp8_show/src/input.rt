@@ -2,9 +2,10 @@
 // length FFFFFFFF asks for a fresh parser, FFFFFFFE and FFFFFFFD that frames be read in the standard's mode and in the Rust's from here
 // on, and FFFFFFFC that the next frame be only looked at.
 ghost use Rattle.std.specs.Prelude.{◌≡◌};
-ghost use Rattle.io.specs.Counts.{IsPrefixLen};
+ghost use Rattle.lines.specs.Read.{IsPrefixLen};
 
 use lines::Number;
+use std::io::Read;
 use vp8_records::Mode;
 
 // How the input goes on.
@@ -26,10 +27,10 @@ pub struct Record {
     pub count: usize,
 }
 
-fn take_bytes(frame: &mut [u8], wanted: usize) -> Record
+fn take_bytes(input: &mut impl Read, frame: &mut [u8], wanted: usize) -> Record
     ensures { IsPrefixLen result.count frame.new }
 {
-    let got = lines::take(frame, wanted);
+    let got = lines::take(input, frame, wanted);
     if got < wanted {
         return Record {
             came: Came::CutShort,
@@ -43,7 +44,7 @@ fn take_bytes(frame: &mut [u8], wanted: usize) -> Record
 }
 
 // The frame of a given size.
-pub fn take_frame(frame: &mut [u8], size: u32) -> Record
+pub fn take_frame(input: &mut impl Read, frame: &mut [u8], size: u32) -> Record
     ensures { IsPrefixLen result.count frame.new }
 {
     if 65536 < size {
@@ -52,7 +53,7 @@ pub fn take_frame(frame: &mut [u8], size: u32) -> Record
             count: 0,
         };
     }
-    take_bytes(frame, size as usize)
+    take_bytes(input, frame, size as usize)
 }
 
 // A length that is none.
@@ -69,15 +70,15 @@ fn word(size: u32) -> Record
 }
 
 // The next record, its frame to the start of the buffer.
-pub fn take(frame: &mut [u8]) -> Record
+pub fn take(input: &mut impl Read, frame: &mut [u8]) -> Record
     ensures { IsPrefixLen result.count frame.new }
 {
-    match lines::take_le4() {
+    match lines::take_le4(input) {
         Number::Is(size) => {
             if 0xfffffffc <= size {
                 return word(size);
             }
-            take_frame(frame, size)
+            take_frame(input, frame, size)
         }
         Number::End => Record {
             came: Came::End,

@@ -1,0 +1,19 @@
+-- A bar, and the numbers that the decoder shows.
+use Prim.Native.Nat.{ℕ}
+use mathlib.Core.Path.{◌≡◌}
+use mathlib.Core.List.{[], ◌∷◌, ◌++◌}
+use Rattle.rfc6386.specs.Decoder.{State}
+use Rattle.bool_slow.specs.Told.{shown_of}
+use Rattle.bool_slow.specs.declared.bare.Shown.{Shown}
+use Rattle.text.specs.Template.{ascii, filled}
+use Rattle.text.proofs.Puts.{then, worded}
+use Rattle.bool_script.specs.Line.{end_text}
+use Rattle.bool_script.proofs.finish.Goals as goal
+
+end_text_lem : (l : ℕ) (s : State) (n : Shown) → n ≡ shown_of l s
+    → ascii " |" ++ filled (ascii " | | | | |") (n.range ∷ n.value ∷ n.count ∷ n.position ∷ n.past ∷ []) ≡ end_text l s
+unfolding end_text
+end_text_lem l s n e = rw e
+
+pub returns : goal.returns
+returns c = worded _ _ _ _ (then _ _ _ _ _ c.bytes-bar.ensures c.fill.ensures) (end_text_lem _ _ _ c.shown-seen.ensures)

@@ -1,0 +1,14 @@
+use Prim.Native.Nat.{◌-◌, ◌<◌}
+use native.Mathlib.Omega.{arith}
+use mathlib.Core.Path.{◌≡◌, ◌∙◌}
+use lib.ListN.{length, drop, length-drop}
+use Rattle.bool_script.proofs.Answers.{begins}
+use Rattle.bool_script.proofs.Turns.{Turn, begin, turn, end}
+use borrow.Author.Rules.{rules}
+use Rattle.bool_script.proofs.line.Given as goal
+
+abbrev pub invariant-loop-i : goal.invariant-loop-i
+invariant-loop-i l = Turn l.area l.reads l.initial.out l.out l.dec l.at l.i
+
+abbrev pub decreases-loop-i : goal.decreases-loop-i
+decreases-loop-i l = length l.reads - l.i

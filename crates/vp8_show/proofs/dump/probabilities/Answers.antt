@@ -1,0 +1,12 @@
+-- Three names, each with the bytes that the flat records have.
+use Rattle.text.specs.Template.{ascii}
+use Rattle.text.proofs.Puts.{then}
+use Rattle.vp8_show.specs.Dumped.{probs_text}
+use Rattle.vp8_show.proofs.Laws.{hex_is}
+use Rattle.vp8_show.proofs.dump.probabilities.Goals as goal
+
+pub returns : goal.returns
+unfolding probs_text
+returns c = then _ _ _ _ _ (hex_is _ _ (ascii " modes=") _ _ c.named_bytes-to.ensures c.modes-modes.ensures)
+    (then _ _ _ _ _ (hex_is _ _ (ascii " mv=") _ _ c.named_bytes-to-2.ensures c.motion-motion.ensures)
+    (hex_is _ _ (ascii " coeff=") _ _ c.named_bytes.ensures c.coeffs-coeffs.ensures))
