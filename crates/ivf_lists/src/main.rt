@@ -3,9 +3,9 @@
 // 1,000,000 and 2,000,000 and on before the walk. A bad record gets a line that says what is wrong, and ends the run.
 #![tactic(auto)]
 
-use std::io::Read;
 use ivf::Walked;
 use lines::Number;
+use std::io::Read;
 
 // The entries before a walk.
 fn fill_offsets(offsets: &mut [u64]) {
@@ -86,7 +86,9 @@ fn wrong(rt: &impl Print, word: &[u8]) -> bool {
 }
 
 // Lists of these lengths, of the entries that there are.
-fn lists(rt: &impl Print, file: &[u8],
+fn lists(
+    rt: &impl Print,
+    file: &[u8],
     offsets: &mut [u64],
     lengths: &mut [u32],
     of_offsets: usize,
@@ -98,7 +100,12 @@ fn lists(rt: &impl Print, file: &[u8],
     if lengths.len() < of_lengths {
         return wrong(rt, b"too large");
     }
-    walk(rt, file, &mut offsets[..of_offsets], &mut lengths[..of_lengths])
+    walk(
+        rt,
+        file,
+        &mut offsets[..of_offsets],
+        &mut lengths[..of_lengths],
+    )
 }
 
 fn next_byte(input: &mut impl Read) -> usize {
@@ -110,7 +117,13 @@ fn next_byte(input: &mut impl Read) -> usize {
 }
 
 // One record; false where there is no other.
-fn record(rt: &impl Print, input: &mut impl Read, file: &mut [u8], offsets: &mut [u64], lengths: &mut [u32]) -> bool {
+fn record(
+    rt: &impl Print,
+    input: &mut impl Read,
+    file: &mut [u8],
+    offsets: &mut [u64],
+    lengths: &mut [u32],
+) -> bool {
     let of_offsets = next_byte(input);
     if of_offsets == 256 {
         return false;
@@ -134,7 +147,13 @@ fn record(rt: &impl Print, input: &mut impl Read, file: &mut [u8], offsets: &mut
 }
 
 // Nothing says that the input ends, so the loop counts down from a number that no run uses up.
-fn records(rt: &impl Print, input: &mut impl Read, file: &mut [u8], offsets: &mut [u64], lengths: &mut [u32]) {
+fn records(
+    rt: &impl Print,
+    input: &mut impl Read,
+    file: &mut [u8],
+    offsets: &mut [u64],
+    lengths: &mut [u32],
+) {
     let mut left = u64::MAX;
     let mut more = true;
     while left > 0 && more {

@@ -12,7 +12,9 @@ use ivf::Ended;
 use vp8_records::{Mode, Parser};
 
 // The first `count` listed frames, each to the parser that the one before left, and its lines; the parser after all of them.
-fn tell_frames(rt: &impl Print, parser: Parser,
+fn tell_frames(
+    rt: &impl Print,
+    parser: Parser,
     file: &[u8],
     offsets: &[u64],
     lengths: &[u32],

@@ -85,7 +85,13 @@ fn looking(run: Run) -> Run {
     after
 }
 
-fn record(rt: &impl Print, input: &mut impl Read, run: Run, buffer: &mut [u8], out: &mut [u8]) -> Run {
+fn record(
+    rt: &impl Print,
+    input: &mut impl Read,
+    run: Run,
+    buffer: &mut [u8],
+    out: &mut [u8],
+) -> Run {
     let mode = run.mode;
     let taken = vp8_show::input::take(input, buffer);
     let came = taken.came;

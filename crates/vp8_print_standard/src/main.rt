@@ -12,5 +12,8 @@ fn main(rt: HostRuntime) {
         return;
     }
     let fresh = Parser::new();
-    vp8_show::print::tell(&rt, vp8_parser::parse_in(fresh, &frame[..n], Mode::Standard));
+    vp8_show::print::tell(
+        &rt,
+        vp8_parser::parse_in(fresh, &frame[..n], Mode::Standard),
+    );
 }
