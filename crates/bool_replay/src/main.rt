@@ -5,10 +5,10 @@
 
 ghost use Rattle.lines.specs.Read.{IsPrefixLen};
 
-use std::io::Read;
 use bool_script::engines::Engine;
 use bool_script::input::Came;
 use lines::Number;
+use std::io::Read;
 use std::num::wrapping_add_u64;
 
 // What has been replayed, and whether there may be more.
@@ -71,7 +71,14 @@ fn same_line(area: &[u8], reads: &[u8], stored: &[u8], engine: Engine, out: &mut
     check::same(text::part(out, n), stored)
 }
 
-fn compare(rt: &impl Print, tally: Tally, area: &[u8], reads: &[u8], stored: &[u8], out: &mut [u8]) -> Tally {
+fn compare(
+    rt: &impl Print,
+    tally: Tally,
+    area: &[u8],
+    reads: &[u8],
+    stored: &[u8],
+    out: &mut [u8],
+) -> Tally {
     let scripts = wrapping_add_u64(tally.scripts, 1);
     let operations = wrapping_add_u64(tally.operations, (reads.len() / 2) as u64);
     let window = same_line(area, reads, stored, Engine::Window, out);

@@ -5,7 +5,7 @@ use mathlib.Core.List.{List, [], ◌∷◌, ◌++◌}
 use lib.ListN.{replicate}
 use Rattle.ivf.specs.declared.Ended.TheVariants.{AtEnd, NoHeader, CutShort, ListFull}
 use Rattle.ivf.specs.Ivf.{magic, starts, headed}
-use Rattle.ivf.specs.Walk.{Place, Walk, step_at, walk_from, walked}
+use Rattle.ivf.specs.Walk.{Place, step_at, walk_from, walked}
 
 -- what follows is a header in which all that is not looked at is 255, and a record of two bytes
 header : List ℕ

@@ -5,7 +5,7 @@ use native.Mathlib.Nat.{add-zero}
 use native.Mathlib.Omega.{arith}
 use native.Mathlib.Decide.{dec_le}
 use mathlib.Core.Path.{◌≡◌, refl, sym, ap, ap₂, ◌∙◌}
-use mathlib.Core.Bool.{Bool, true, false}
+use mathlib.Core.Bool.{true}
 use mathlib.Core.List.{List, [], ◌∷◌, ◌++◌, map}
 use borrow.Author.Tests.{lt-ltb, le-ltb}
 use lib.Dec.{ltb}
@@ -14,7 +14,6 @@ use lib.Seq.{take-nil, take-append-le, drop-append-le, take_at, drop_at, take-ad
 use Rattle.rfc6386.specs.Bytes.{le4}
 use Rattle.ivf.specs.declared.Step.{Step}
 use Rattle.ivf.specs.declared.Step.TheVariants.{Done, Cut, Frame}
-use Rattle.ivf.specs.declared.Ended.{Ended}
 use Rattle.ivf.specs.declared.Ended.TheVariants.{ListFull}
 use Rattle.ivf.specs.Ivf.{headed, Whole, Records, none, next, Recording}
 use Rattle.ivf.specs.Walk.{step_at, Place, walk_from, walked, end_of, end_with, bytes_of}

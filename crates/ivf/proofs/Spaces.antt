@@ -2,13 +2,12 @@
 -- records, of 12 bytes at least, and one more. By induction over the room.
 use Prim.Native.Nat.{ℕ, zero, suc, ◌+◌, ◌*◌, ◌≤◌}
 use native.Mathlib.Omega.{arith}
-use mathlib.Core.Path.{◌≡◌, refl, sym, ap, ◌∙◌}
+use mathlib.Core.Path.{◌≡◌, refl, ap}
 use mathlib.Core.Bool.{Bool, true, false}
 use mathlib.Core.List.{List}
 use lib.ListN.{length}
 use Rattle.ivf.specs.declared.Step.{Step}
 use Rattle.ivf.specs.declared.Step.TheVariants.{Done, Cut, Frame}
-use Rattle.ivf.specs.declared.Ended.{Ended}
 use Rattle.ivf.specs.declared.Ended.TheVariants.{ListFull}
 use Rattle.ivf.specs.Ivf.{headed}
 use Rattle.ivf.specs.Walk.{refusal_of, step_at, Walk, walk_from, walked, Spaced}

@@ -9,7 +9,6 @@ use borrow.Author.Tests.{ltb-false, lt-ltb, le-ltb, eq-eqb, ne_eqb}
 use lib.Dec.{ltb}
 use lib.ListN.{length}
 use Rattle.rfc6386.specs.Bytes.{le4}
-use Rattle.ivf.specs.declared.Step.{Step}
 use Rattle.ivf.specs.declared.Step.TheVariants.{Done, Cut, Frame}
 use Rattle.ivf.specs.declared.Ended.TheVariants.{AtEnd, CutShort, ListFull}
 use Rattle.ivf.specs.Ivf.{headed}

@@ -1,15 +1,14 @@
 -- The loop over the records: what is left of the walk, stored from the next entry on, makes the whole.
-use Prim.Native.Nat.{ℕ, zero, suc, ◌+◌, ◌-◌, ◌≤◌, ◌<◌, min}
+use Prim.Native.Nat.{ℕ, suc, ◌+◌, ◌-◌, ◌≤◌, ◌<◌, min}
 use native.Mathlib.Nat.{zero-add}
 use native.Mathlib.Numerals.{add-one}
 use native.Mathlib.Omega.{arith}
-use mathlib.Core.Path.{◌≡◌, refl, sym, ap, ◌∙◌}
+use mathlib.Core.Path.{◌≡◌, refl, ap, ◌∙◌}
 use mathlib.Core.Bool.{true, false}
-use mathlib.Core.List.{List, [], ◌∷◌, ◌++◌, map}
+use mathlib.Core.List.{List, ◌++◌, map}
 use lib.ListN.{length, drop, set, length-set, length-map}
 use lib.Seq.{sets, sets-eq}
 use Rattle.ivf.specs.declared.Step.TheVariants.{Frame}
-use Rattle.ivf.specs.declared.Walked.{Walked}
 use Rattle.ivf.specs.declared.Ended.{Ended}
 use Rattle.ivf.specs.declared.Ended.TheVariants.{NoHeader, ListFull}
 use Rattle.ivf.specs.Ivf.{headed}

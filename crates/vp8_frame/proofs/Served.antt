@@ -1,13 +1,12 @@
 -- One lent call after the other, each over what the one before left in the record: the contract of `parse_frame` fixes one answer, so the
 -- laws of answered calls hold of it.
 use Prim.Native.Nat.{ℕ}
-use mathlib.Core.Path.{◌≡◌, refl, ap, ◌∙◌}
+use mathlib.Core.Path.{◌≡◌, refl, ap}
 use mathlib.Core.Bool.{true}
 use mathlib.Core.List.{List, ◌++◌, map}
 use mir.Val.{Val}
 use denote.Laws.{Is}
 use Rattle.vp8_records.specs.declared.Parser.{Parser}
-use Rattle.vp8_records.specs.declared.Parsed.{Parsed}
 use Rattle.vp8_records.specs.Start.{fresh}
 use Rattle.vp8_records.specs.contracts.Parser as Held
 use Rattle.vp8_records.proofs.Typed.{typed_sized}

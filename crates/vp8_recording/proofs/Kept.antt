@@ -1,7 +1,7 @@
 -- Demand 3 over a recording: what `play_in` leaves, in terms of the frames that the file has. By its contract, the walk's frames are the
 -- file's, so the laws of any calls hold of it; there is no premise on the record that is passed in.
 use Prim.Native.Nat.{ℕ}
-use mathlib.Core.Path.{◌≡◌, refl, sym, ap, ◌∙◌}
+use mathlib.Core.Path.{◌≡◌, sym, ap, ◌∙◌}
 use mathlib.Core.Bool.{true, false}
 use mathlib.Core.List.{List, ◌∷◌, ◌++◌, map, map-append}
 use lib.ListN.{take}
@@ -14,7 +14,7 @@ use Rattle.vp8_records.specs.Start.{fresh}
 use Rattle.vp8_records.specs.contracts.Parser as Held
 use Rattle.rfc6386.specs.Decoder.{pick}
 use Rattle.rfc6386.specs.Runs.{or}
-use Rattle.rfc6386.specs.Call.{Asked, calls, after}
+use Rattle.rfc6386.specs.Call.{Asked, after}
 use Rattle.rfc6386_history.specs.History.{cutter, any_cutter, writes, since, last}
 use Rattle.rfc6386_history.specs.Kept.{kept}
 use Rattle.rfc6386_history.proofs.History.{cut_off_after, last_writer, last_writer_from}

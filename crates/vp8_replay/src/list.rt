@@ -1,7 +1,7 @@
 // The stored list, read piece by piece (tests/fixed/README.md). An answer of false means that the list is cut short or has an index that
 // is too large. What stands in the lent arrays afterwards is what the C library read, which no contract can name.
-use std::io::Read;
 use lines::Number;
+use std::io::Read;
 
 fn number(input: &mut impl Read, width: u8) -> Number {
     if width == 1 {

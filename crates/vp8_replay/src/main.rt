@@ -7,8 +7,8 @@ mod list;
 
 ghost use Rattle.std.specs.Prelude.{◌≤◌};
 
-use std::io::Read;
 use lines::Number;
+use std::io::Read;
 use std::num::wrapping_add_u64;
 use vp8_compare::{Found, Place};
 use vp8_records::{Mode, Parsed, Parser};
@@ -140,7 +140,9 @@ fn take_header(input: &mut impl Read, numbers: &mut [u32; 51], probs: &mut [u8])
 }
 
 // The stored answer: the refusal with what it carries, an accepted frame's header, the kept numbers.
-fn take_answer(input: &mut impl Read, given: &mut [u32; 3],
+fn take_answer(
+    input: &mut impl Read,
+    given: &mut [u32; 3],
     numbers: &mut [u32; 51],
     probs: &mut [u8],
     kept: &mut [u8],
@@ -170,7 +172,10 @@ fn compared(
 }
 
 // The answer to one frame, held against the stored one.
-fn frame(rt: &impl Print, input: &mut impl Read, replay: Replay,
+fn frame(
+    rt: &impl Print,
+    input: &mut impl Read,
+    replay: Replay,
     mode: Mode,
     case: u32,
     bytes: &[u8],
@@ -180,7 +185,11 @@ fn frame(rt: &impl Print, input: &mut impl Read, replay: Replay,
     let mut given = [0u32; 3];
     let mut numbers = [0u32; 51];
     if !take_answer(input, &mut given, &mut numbers, probs, kept) {
-        return wrong(rt, replay, b"an answer that is cut short or has a wrong index");
+        return wrong(
+            rt,
+            replay,
+            b"an answer that is cut short or has a wrong index",
+        );
     }
     let parsed = vp8_parser::parse_in(replay.parser, bytes, mode);
     let found = compared(parsed, &given, &numbers, probs, kept);
@@ -190,7 +199,10 @@ fn frame(rt: &impl Print, input: &mut impl Read, replay: Replay,
 }
 
 // A frame has to be there, with its whole bytes.
-fn framed(rt: &impl Print, input: &mut impl Read, replay: Replay,
+fn framed(
+    rt: &impl Print,
+    input: &mut impl Read,
+    replay: Replay,
     mode: Mode,
     case: u32,
     size: u32,
@@ -213,7 +225,14 @@ fn framed(rt: &impl Print, input: &mut impl Read, replay: Replay,
 }
 
 // The number of the worked case that the frame is, 0 for none, and its length stand first.
-fn numbered(rt: &impl Print, input: &mut impl Read, replay: Replay, mode: Mode, probs: &mut [u8], kept: &mut [u8]) -> Replay {
+fn numbered(
+    rt: &impl Print,
+    input: &mut impl Read,
+    replay: Replay,
+    mode: Mode,
+    probs: &mut [u8],
+    kept: &mut [u8],
+) -> Replay {
     let mut first = [0u32; 2];
     if !list::numbers(input, &mut first, &[1u8, 4]) {
         return wrong(rt, replay, b"cut short");
@@ -278,7 +297,14 @@ fn last(rt: &impl Print, input: &mut impl Read, replay: Replay) -> Replay {
     finish(rt, input, replay)
 }
 
-fn record(rt: &impl Print, input: &mut impl Read, replay: Replay, fresh: &[u8], probs: &mut [u8], kept: &mut [u8]) -> Replay {
+fn record(
+    rt: &impl Print,
+    input: &mut impl Read,
+    replay: Replay,
+    fresh: &[u8],
+    probs: &mut [u8],
+    kept: &mut [u8],
+) -> Replay {
     match lines::take_byte(input) {
         Number::Is(kind) => {
             if kind == 1 {
@@ -313,7 +339,13 @@ fn none_yet() -> Replay {
 }
 
 // Nothing says that the list ends, so the loop counts down from a number that no run uses up.
-fn records(rt: &impl Print, input: &mut impl Read, fresh: &[u8], probs: &mut [u8], kept: &mut [u8]) {
+fn records(
+    rt: &impl Print,
+    input: &mut impl Read,
+    fresh: &[u8],
+    probs: &mut [u8],
+    kept: &mut [u8],
+) {
     let mut replay = none_yet();
     let mut left = u64::MAX;
     while left > 0 && replay.tally.more {
@@ -337,7 +369,12 @@ fn main(rt: HostRuntime) {
         return;
     }
     match vp8_compare::fresh_apart(&fresh) {
-        Place::At(i) => tell(&rt, b"a fresh parser keeps another number ", i as u64, b"\n"),
+        Place::At(i) => tell(
+            &rt,
+            b"a fresh parser keeps another number ",
+            i as u64,
+            b"\n",
+        ),
         Place::Nowhere => {
             let mut probs = [0u8; 1101];
             let mut kept = [0u8; 1126];

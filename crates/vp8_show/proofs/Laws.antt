@@ -10,7 +10,6 @@ use lib.Dec.{eqb}
 use lib.IntN.{ℤ}
 use lib.ListN.{length, get_or, take, drop, drop_of_length-le}
 use lib.Seq.{drop-cons, length-take-le, get_or-take}
-use denote.Enum.Declared.{tag_of}
 use mir.Syntax.{w8, w32}
 use mir.Val.{SFits, to_z, of_z}
 use mir.Facts.{to_z-of_z, sfits_widen}
@@ -22,7 +21,6 @@ use Rattle.vp8_records.specs.declared.Outcome.TheVariants.{Accepted, ChunkTooSho
 use Rattle.vp8_records.specs.declared.Look.{Look}
 use Rattle.vp8_records.specs.declared.Peeked.{Peeked}
 use Rattle.vp8_records.specs.declared.Peeked.TheVariants.{Seen, TooShort, StartCode}
-use Rattle.vp8_records.specs.contracts.Peeked.{the_type}
 use Rattle.vp8_records.specs.Outcome.{number_of}
 use Rattle.vp8_records.specs.Start.{fresh, blank}
 use Rattle.rfc6386.specs.Call.{answer}

@@ -1,6 +1,6 @@
 -- A line of the dump, without its end: `ok` and every number of the header, or `err` and the refusal, and the kept numbers after the call.
 -- Numbers are decimal, probabilities and kept numbers two hexadecimal digits each.
-use Rattle.std.specs.Prelude.{ℕ, cond, List, [], ◌∷◌, ◌++◌, eqb, ℤ}
+use Rattle.std.specs.Prelude.{ℕ, cond, List, ◌++◌, eqb, ℤ}
 use Rattle.vp8_records.specs.declared.QuantIndices.{QuantIndices}
 use Rattle.vp8_records.specs.declared.Header.{Header}
 use Rattle.vp8_records.specs.declared.Parsed.{Parsed}

@@ -1,14 +1,10 @@
 -- The loop is `Turns` over the table, which has 1,056 entries.
-use Prim.Native.Nat.{ℕ, ◌-◌}
 use native.Mathlib.Omega.{arith}
-use mathlib.Core.Path.{◌≡◌, refl, ap, ◌∙◌}
-use mathlib.Core.List.{List}
+use mathlib.Core.Path.{◌≡◌, ap, ◌∙◌}
 use lib.ListN.{length}
-use borrow.Author.Rules.{rules}
 use Rattle.vp8_probs.specs.Tables.{coeff_update}
 use Rattle.bench_decoder.specs.Flags.{sum_of}
-use Rattle.bench_decoder.proofs.Turns.{Turn, begin, turn, end, whole}
-use Rattle.bool_decoder.proofs.Chain.{fewer}
+use Rattle.bench_decoder.proofs.Turns.{turn, end, whole}
 use Rattle.bench_decoder.proofs.flags.Goals as goal
 
 pub loop-i-preserved : goal.loop-i-preserved

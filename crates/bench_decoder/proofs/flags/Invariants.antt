@@ -1,13 +1,5 @@
-use Prim.Native.Nat.{ℕ, ◌-◌}
-use native.Mathlib.Omega.{arith}
-use mathlib.Core.Path.{◌≡◌, refl, ap, ◌∙◌}
-use mathlib.Core.List.{List}
-use lib.ListN.{length}
-use borrow.Author.Rules.{rules}
-use Rattle.vp8_probs.specs.Tables.{coeff_update}
-use Rattle.bench_decoder.specs.Flags.{sum_of}
-use Rattle.bench_decoder.proofs.Turns.{Turn, begin, turn, end, whole}
-use Rattle.bool_decoder.proofs.Chain.{fewer}
+use Prim.Native.Nat.{◌-◌}
+use Rattle.bench_decoder.proofs.Turns.{Turn}
 use Rattle.bench_decoder.proofs.flags.Given as goal
 
 abbrev pub invariant-loop-i : goal.invariant-loop-i

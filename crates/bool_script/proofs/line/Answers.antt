@@ -1,11 +1,10 @@
 -- The loop is that of `Turns`; where no whole read is left, the end of the line is what is left of it.
-use Prim.Native.Nat.{◌-◌, ◌<◌}
+use Prim.Native.Nat.{◌<◌}
 use native.Mathlib.Omega.{arith}
-use mathlib.Core.Path.{◌≡◌, ◌∙◌}
+use mathlib.Core.Path.{◌∙◌}
 use lib.ListN.{length, drop, length-drop}
 use Rattle.bool_script.proofs.Answers.{begins}
-use Rattle.bool_script.proofs.Turns.{Turn, begin, turn, end}
-use borrow.Author.Rules.{rules}
+use Rattle.bool_script.proofs.Turns.{begin, turn, end}
 use Rattle.bool_script.proofs.line.Goals as goal
 
 pub loop-i-init : goal.loop-i-init

@@ -1,10 +1,6 @@
-use Prim.Native.Nat.{◌-◌, ◌<◌}
-use native.Mathlib.Omega.{arith}
-use mathlib.Core.Path.{◌≡◌, ◌∙◌}
-use lib.ListN.{length, drop, length-drop}
-use Rattle.bool_script.proofs.Answers.{begins}
-use Rattle.bool_script.proofs.Turns.{Turn, begin, turn, end}
-use borrow.Author.Rules.{rules}
+use Prim.Native.Nat.{◌-◌}
+use lib.ListN.{length}
+use Rattle.bool_script.proofs.Turns.{Turn}
 use Rattle.bool_script.proofs.line.Given as goal
 
 abbrev pub invariant-loop-i : goal.invariant-loop-i

@@ -7,12 +7,10 @@ use Rattle.rfc6386.specs.Decoder.{State, Out, position, past}
 use Rattle.bool_decoder.specs.Model.{out}
 use Rattle.text.specs.Template.{ascii, filled}
 use Rattle.text.proofs.Puts.{then, worded}
-use Rattle.bool_script.specs.Script.{ask_of}
 use Rattle.bool_script.specs.Line.{value_text, read_text}
 use Rattle.bool_slow.specs.declared.bare.Value.{Value}
 use Rattle.bool_slow.specs.declared.bare.Shown.{Shown}
 use Rattle.bool_script.proofs.Answers.{given, leaves}
-use borrow.Author.Rules.{rules}
 use Rattle.bool_script.proofs.step.Goals as goal
 
 read_text_lem : (l : ℕ) (o : Out Value) (v : Value) (s : State) (at q : ℕ) → o ≡ out v s → at ≡ position l s → q ≡ past l s

@@ -1,12 +1,8 @@
 -- The loop takes one record a turn: `Turns`.
-use Prim.Native.Nat.{◌-◌}
 use native.Mathlib.Omega.{arith}
 use mathlib.Core.Path.{sym, ◌∙◌}
-use borrow.Author.Rules.{rules}
-use borrow.Author.Tests.{not-true, not-false}
-use lib.ListN.{length}
 use Rattle.ivf.specs.declared.Ended.TheVariants.{AtEnd, CutShort, ListFull}
-use Rattle.ivf.proofs.Turns.{Turn, begin, turn, full, stop, refused}
+use Rattle.ivf.proofs.Turns.{begin, turn, full, stop, refused}
 use Rattle.ivf.proofs.Steps.{headed_long, fits, walk_done, walk_cut}
 use Rattle.ivf.proofs.walk.Goals as goal
 

@@ -1,9 +1,7 @@
 -- The run is as long as the array, so it is what the array holds: `full` of `Runs`.
 use mathlib.Core.Path.{sym, ◌∙◌}
-use borrow.Author.Rules.{rules}
 use Rattle.vp8_records.proofs.Typed.{typed_sized}
 use Rattle.vp8_flat.proofs.Runs.{full}
-use Rattle.vp8_records.specs.Shape.{Sized, SizedMvContext}
 use Rattle.vp8_flat.proofs.Whole.{how_long}
 use Rattle.vp8_flat.proofs.kept.Goals as goal
 

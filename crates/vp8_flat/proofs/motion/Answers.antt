@@ -1,9 +1,7 @@
 -- The run is as long as the array, so it is what the array holds: `full` of `Runs`.
 use mathlib.Core.Path.{sym, ◌∙◌}
-use borrow.Author.Rules.{rules}
 use Rattle.vp8_records.proofs.Typed as Typed
 use Rattle.vp8_flat.proofs.Runs.{full}
-use Rattle.vp8_records.specs.Shape.{SizedMv, SizedMvContext}
 use Rattle.vp8_records.proofs.Parts.{mv}
 use Rattle.vp8_flat.proofs.motion.Goals as goal
 

@@ -1,12 +1,10 @@
 -- After i turns the rows of the first i are put: the law is `Put` of `Runs`.
-use Prim.Native.Nat.{◌-◌}
 use native.Mathlib.Omega.{arith}
 use mathlib.Core.Path.{◌≡◌}
 use lib.ListN.{length}
 use borrow.Author.Rules.{rules}
 use Rattle.vp8_records.proofs.Arrays.{length_mapped}
-use Rattle.vp8_flat.proofs.Runs.{Put, begin, turn, end}
-use Rattle.vp8_records.specs.Layout.{flat_mv_context}
+use Rattle.vp8_flat.proofs.Runs.{begin, turn}
 use Rattle.vp8_flat.proofs.put_motion.Goals as goal
 
 pub loop-i-init : goal.loop-i-init

@@ -1,5 +1,4 @@
 -- The pieces one after the other, and together the kept numbers: `Whole`.
-use borrow.Author.Rules.{rules}
 use Rattle.text.proofs.Puts.{then, worded}
 use Rattle.vp8_flat.proofs.Whole.{kept_is}
 use Rattle.vp8_flat.proofs.put_parser.Goals as goal

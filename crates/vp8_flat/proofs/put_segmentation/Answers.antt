@@ -1,6 +1,5 @@
 -- The pieces one after the other: `then` of `Puts`.
 use mathlib.Core.List.{[], ◌∷◌}
-use borrow.Author.Rules.{rules}
 use Rattle.text.proofs.Puts.{then, worded}
 use Rattle.vp8_flat.proofs.put_segmentation.Goals as goal
 

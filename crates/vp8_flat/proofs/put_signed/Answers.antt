@@ -1,16 +1,16 @@
 -- After i turns the bytes of the first i numbers are put: `Runs`, with a run of one for each.
-use Prim.Native.Nat.{ℕ, ◌-◌}
+use Prim.Native.Nat.{ℕ}
 use mathlib.Core.Path.{◌≡◌, ap, ◌∙◌}
 use mathlib.Core.List.{[], ◌∷◌}
 use lib.ListN.{length, get_or}
-use lib.IntN.{ℤ, pos}
+use lib.IntN.{pos}
 use mir.Val.{of_z}
 use mir.Syntax.{w8}
 use mir.ValLaws.{to_z-of_z}
 use borrow.Author.Rules.{rules}
-use Rattle.text.specs.Text.{text, put, puts}
+use Rattle.text.specs.Text.{text, puts}
 use Rattle.text.proofs.Puts.{one}
-use Rattle.vp8_flat.proofs.Runs.{Put, begin, turn, end, joined_map}
+use Rattle.vp8_flat.proofs.Runs.{begin, turn, end, joined_map}
 use Rattle.vp8_flat.proofs.put_signed.Goals as goal
 
 pub loop-i-init : goal.loop-i-init

@@ -1,11 +1,10 @@
 -- What the walk listed is fed.
 use mathlib.Core.Path.{ap, ◌∙◌}
 use mathlib.Core.List.{List}
-use borrow.Author.Rules.{rules}
 use Rattle.vp8_records.proofs.Typed.{typed_sized}
 use Rattle.rfc6386.specs.Call.{after}
 use Rattle.ivf.specs.Walk.{Place, bytes_of}
-use Rattle.ivf.proofs.Fills.{named, listed_fits}
+use Rattle.ivf.proofs.Fills.{named}
 use Rattle.vp8_recording.specs.Plays.{all_in}
 use Rattle.vp8_recording.proofs.play_in.Goals as goal
 

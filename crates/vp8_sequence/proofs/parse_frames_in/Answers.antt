@@ -1,10 +1,6 @@
 -- The loop takes one frame a turn: `Folds`. That the parser is sized is known by its type: `typed_sized`.
-use Prim.Native.Nat.{◌-◌, ◌^◌, ◌<◌}
-use native.Mathlib.Omega.{arith}
-use lib.ListN.{length}
-use borrow.Author.Rules.{rules}
 use Rattle.vp8_records.proofs.Typed.{typed_sized}
-use Rattle.vp8_sequence.proofs.Folds.{Turn, begin, turn, ended, one_few}
+use Rattle.vp8_sequence.proofs.Folds.{turn, ended}
 use Rattle.vp8_sequence.proofs.parse_frames_in.Goals as goal
 
 pub loop-i-preserved : goal.loop-i-preserved

@@ -1,9 +1,6 @@
-use Prim.Native.Nat.{◌-◌, ◌^◌, ◌<◌}
-use native.Mathlib.Omega.{arith}
+use Prim.Native.Nat.{◌-◌}
 use lib.ListN.{length}
-use borrow.Author.Rules.{rules}
-use Rattle.vp8_records.proofs.Typed.{typed_sized}
-use Rattle.vp8_sequence.proofs.Folds.{Turn, begin, turn, ended, one_few}
+use Rattle.vp8_sequence.proofs.Folds.{Turn}
 use Rattle.vp8_sequence.proofs.parse_frames_in.Given as goal
 
 abbrev pub invariant-loop-i : goal.invariant-loop-i

@@ -1,7 +1,6 @@
 -- By the three answers of a look: a template with its eight numbers, or the words of a refusal.
 use Rattle.text.proofs.Puts.{worded}
 use Rattle.vp8_show.proofs.Laws.{look_seen, look_short, look_code}
-use borrow.Author.Rules.{rules}
 use Rattle.vp8_show.proofs.looked.Goals as goal
 
 pub returns-in-Seen : goal.returns-in-Seen

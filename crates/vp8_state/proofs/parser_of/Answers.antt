@@ -1,5 +1,4 @@
 use Rattle.vp8_state.specs.Laid.{parser_of}
-use borrow.Author.Rules.{rules}
 use Rattle.vp8_state.proofs.parser_of.Goals as goal
 
 pub returns : goal.returns

@@ -1,6 +1,5 @@
 -- The block read, the call, the block written: `Handed`.
 use mathlib.Core.Path.{ap, sym, ◌∙◌}
-use borrow.Author.Rules.{rules}
 use Rattle.vp8_records.specs.declared.Mode.{Mode}
 use Rattle.rfc6386.specs.Call.{call}
 use Rattle.vp8_state.specs.Handed.{Offer}

@@ -1,6 +1,5 @@
 -- The tests in their order; then heading and sections are the block: `Stores`.
 use mathlib.Core.Path.{◌≡◌, sym, ◌∙◌}
-use borrow.Author.Tests.{not-true, not-false}
 use lib.ListN.{length}
 use borrow.Author.Rules.{rules}
 use Rattle.vp8_state.proofs.Stores.{refused_size, refused_fault, was_written}

@@ -1,7 +1,6 @@
 -- The kind picks the read.
 use borrow.Author.Tests.{eq-eqb, ne_eqb}
 use Rattle.bool_script.specs.Script.{ask_of}
-use borrow.Author.Rules.{rules}
 use Rattle.bool_script.proofs.engines.read_slow.Goals as goal
 
 pub returns-in-0 : goal.returns-in-0

@@ -1,7 +1,6 @@
 -- The line of a look with the dump's words.
 use Rattle.text.proofs.Puts.{worded}
 use Rattle.vp8_show.proofs.Laws.{dump_look}
-use borrow.Author.Rules.{rules}
 use Rattle.vp8_show.proofs.dump.look.Goals as goal
 
 pub returns : goal.returns

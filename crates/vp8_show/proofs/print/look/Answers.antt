@@ -1,7 +1,6 @@
 -- The line of a look, then its end.
 use Rattle.text.proofs.Puts.{then_one, worded}
 use Rattle.vp8_show.proofs.Laws.{print_look}
-use borrow.Author.Rules.{rules}
 use Rattle.vp8_show.proofs.print.look.Goals as goal
 
 pub returns : goal.returns
