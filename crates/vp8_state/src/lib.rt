@@ -1,5 +1,5 @@
 // The parser record handed over as a block of bytes (docs/RULES.md, the block): written, read, and one call over it; for Rattle, and, with
-// numbers and byte slices only, for hosts that link the library. No public function has a premise.
+// numbers and byte slices only, for hosts, to whom `vp8_state_c` exports the last three. No public function has a premise.
 #![tactic(auto)]
 
 ghost use Rattle.std.specs.Prelude.{◌≡◌, map, ◌++◌, ◌+◌, ◌≤◌, eqb, nat_abs, length, drop};
@@ -338,9 +338,8 @@ pub fn read_block(block: &[u8]) -> ReadAnswer
     ReadAnswer { verdict, parser }
 }
 
-// Exported: the record of a block into the caller's 1,126 bytes.
-#[unsafe(no_mangle)]
-pub extern "C" fn vp8_state_read(block: &[u8], bytes: &mut [u8]) -> u32
+// For hosts (`vp8_state_c` exports it): the record of a block into the caller's 1,126 bytes.
+pub fn vp8_state_read(block: &[u8], bytes: &mut [u8]) -> u32
     ensures { left result bytes.new ≡ state_read block.now bytes.old }
 {
     if bytes.len() != RECORD {
@@ -354,9 +353,8 @@ pub extern "C" fn vp8_state_read(block: &[u8], bytes: &mut [u8]) -> u32
     0
 }
 
-// Exported: the record of 1,126 bytes into the caller's block.
-#[unsafe(no_mangle)]
-pub extern "C" fn vp8_state_write(bytes: &[u8], block: &mut [u8]) -> u32
+// For hosts: the record of 1,126 bytes into the caller's block.
+pub fn vp8_state_write(bytes: &[u8], block: &mut [u8]) -> u32
     ensures { left result block.new ≡ state_write bytes.now block.old }
 {
     if block.len() != SIZE {
@@ -374,10 +372,9 @@ pub extern "C" fn vp8_state_write(bytes: &[u8], block: &mut [u8]) -> u32
     0
 }
 
-// Exported: one call over the record of the caller's block, which then holds the record that the call leaves, refused or not. The mode 0 is
+// For hosts: one call over the record of the caller's block, which then holds the record that the call leaves, refused or not. The mode 0 is
 // the Rust's, any other the standard's. A block that is refused stays as it is, and nothing is called.
-#[unsafe(no_mangle)]
-pub extern "C" fn vp8_state_parse(mode: u32, block: &mut [u8], frame: &[u8]) -> u32
+pub fn vp8_state_parse(mode: u32, block: &mut [u8], frame: &[u8]) -> u32
     ensures { left result block.new ≡ state_parse block.old (record { mode = mode; frame = frame.now }) }
 {
     let read = read_block(&block[..]);
