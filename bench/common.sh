@@ -40,7 +40,7 @@ esac
 
 # The library is proved as it is built.
 mkdir -p "$made"
-(cd "$top" && rt staticlib "$crate") > "$made/log" 2>&1 || {
+(cd "$top" && tools/staticlib "$crate") > "$made/log" 2>&1 || {
     cat "$made/log" >&2
     exit 1
 }

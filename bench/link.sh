@@ -5,7 +5,7 @@
 words=() rustc=rustc profile=release runs=(-U LD_LIBRARY_PATH)
 if [ "$machine" != x86_64 ] || [ "${SILLBROOK_CROSS:-}" = yes ]; then
     triple=x86_64-unknown-linux-gnu
-    kit=$(dirname "$(dirname "$(rt doc)")")/on/$machine/toolchain
+    kit=$(dirname "$(rt doc)")/toolchain
     [ ! -x "$tools/bin/rustc" ] || rustc=$tools/bin/rustc
     [ -d "$("$rustc" --print target-libdir --target $triple)" ] || stop "$rustc has no library for $triple: call bench/fetch"
     mkdir -p "$made/lib" "$made/system/lib64"

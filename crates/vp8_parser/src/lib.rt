@@ -57,6 +57,7 @@ fn tagged(tag: u32, key: bool, size: u8, width: u16, height: u16) -> DataChunk
 }
 
 // A key frame's start code and sizes.
+#[tactic(auto, using(crate::proofs::Opens::key_short, crate::proofs::Opens::key_other, crate::proofs::Opens::key_cut, crate::proofs::Opens::key_whole))]
 fn key_chunk(bytes: &[u8]) -> ChunkAnswer
     ensures { opened_of result ≡ key_chunk bytes.now }
 {
@@ -77,6 +78,7 @@ fn key_chunk(bytes: &[u8]) -> ChunkAnswer
 }
 
 // The chunk, or refusal 6, 1 or 2 (RFC 6386 section 9.1).
+#[tactic(auto, using(rfc6386::proofs::Peek::over_long, crate::proofs::Opens::chunk_short, crate::proofs::Opens::chunk_key, crate::proofs::Opens::chunk_inter))]
 pub fn parse_uncompressed_data_chunk(bytes: &[u8]) -> ChunkAnswer
     ensures { opened_of result ≡ chunk bytes.now }
 {

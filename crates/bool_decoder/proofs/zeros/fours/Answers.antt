@@ -22,7 +22,7 @@ loop-i-preserved c = let d = c.args.dec in
     let r2 = c.step-b.ensures in
     let r3 = c.step-c.ensures in
     let r4 = c.step-d.ensures in
-    let t4 : d.limit ≤ c.step-d.result + 1 = omega (arith, c.if-d-bound.false) in
+    let t4 : d.limit ≤ c.step-d.result + 1 = omega arith in
     let t3 : d.limit ≤ c.step-c.result + 1 = omega (arith, t4, r4.1) in
     let t2 : d.limit ≤ c.step-b.result + 1 = omega (arith, t3, r3.1) in
     let t1 : d.limit ≤ c.step-a.result + 1 = omega (arith, t2, r2.1) in
