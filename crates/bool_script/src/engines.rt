@@ -142,6 +142,7 @@ fn read_signed(area: &[u8], dec: BoolDecoder, width: u8) -> Answer
 }
 
 // One read of a script on the window.
+#[tactic(auto, unfolding(crate::specs::Script::ask_of))]
 fn read_window(area: &[u8], dec: BoolDecoder, kind: u8, number: u8) -> Answer
     requires { W.Over area.now dec }
     ensures { Gives area.now (ask_of kind number) (Decoder.Window dec) result.value result.past result.dec }

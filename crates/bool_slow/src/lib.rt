@@ -81,6 +81,7 @@ impl SlowDecoder {
     }
 
     // Section 7.2, how a bool is decoded; section 7.3, read_bool.
+    #[tactic(auto, using(crate::proofs::Hand::fetches, crate::proofs::Hand::stays))]
     fn read_bool(self, area: &[u8], prob: u8) -> Bit
         requires { Good area.now self 1 }
         ensures { Ran (bool prob) area.now self result.bit result.dec 1 }

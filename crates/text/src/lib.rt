@@ -63,6 +63,7 @@ fn digit(d: u64) -> u8
 }
 
 // The decimal digits of n, as few as hold it: those before the last, and the last. It calls itself at most 19 deep.
+#[tactic(auto, using(crate::proofs::Spelling::puts_one, crate::proofs::Spelling::puts_more))]
 pub fn decimal(out: &mut [u8], at: usize, n: u64) -> usize
     ensures { text out.new result ≡ puts (text out.old at) (decimal_of n) }
 {

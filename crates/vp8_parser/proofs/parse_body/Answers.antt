@@ -39,4 +39,4 @@ returns c = let a = c.args in
     c.parse_area.ensures
     ∙ ap₂ {C = Parsed} (λ area bytes. sized_of a.mode k area bytes c.base_of-from.result) rest h
     ∙ rw c.base_of-from.ensures
-    (ends_read a.mode k a.parser f c.if-bytes-end.false (λ e. c.if-held-eq0.false (ap length h ∙ e)))
+    (ends_read a.mode k a.parser f c.if-bytes-end.false (λ e. let z : length c.held-held.result.now ≡ 0 = ap length h ∙ e in omega arith))
