@@ -1,3 +1,4 @@
+-- The index grows to the end of the list.
 use Rattle.std.proofs.Common.{◌≡◌, ◌-◌, length}
 use Rattle.ivf_lists.proofs.fill_offsets.Given as goal
 

@@ -1,3 +1,5 @@
+-- The measure is the number of turns that are left; the runs keep their lengths. Each program has a copy: a loop's needs are
+-- of its own locals.
 use Rattle.std.proofs.Common.{◌≡◌, length}
 use Rattle.vp8_replay.proofs.records.Given as goal
 

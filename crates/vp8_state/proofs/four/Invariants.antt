@@ -1,3 +1,4 @@
+-- The loop copies 4 numbers: `Copy`, at 4.
 use Prim.Native.Nat.{◌-◌}
 use Rattle.vp8_records.proofs.Copy.{Copied}
 use Rattle.vp8_state.proofs.four.Given as goal

@@ -1,3 +1,4 @@
+-- The loop copies 38 numbers: `Copy`, at 38.
 use Prim.Native.Nat.{◌-◌}
 use Rattle.vp8_records.proofs.Copy.{Copied}
 use Rattle.vp8_state.proofs.motion_at.Given as goal

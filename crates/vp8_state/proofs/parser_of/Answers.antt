@@ -1,3 +1,4 @@
+-- Section by section, each by the call that lays it out.
 use Rattle.vp8_state.specs.Laid.{parser_of}
 use Rattle.vp8_state.proofs.parser_of.Goals as goal
 

@@ -1,3 +1,4 @@
+-- The loop copies 3 numbers: `Copy`, at 3.
 use Prim.Native.Nat.{◌-◌}
 use Rattle.vp8_records.proofs.Copy.{Copied}
 use Rattle.vp8_state.proofs.three.Given as goal

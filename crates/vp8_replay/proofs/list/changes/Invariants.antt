@@ -1,3 +1,4 @@
+-- The measure is the number of changes that are left; the run keeps its length.
 use Rattle.std.proofs.Common.{◌≡◌, length}
 use Rattle.vp8_replay.proofs.list.changes.Given as goal
 

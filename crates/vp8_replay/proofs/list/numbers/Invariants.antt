@@ -1,3 +1,4 @@
+-- The measure is the number of widths that are left; the array keeps its length.
 use Rattle.std.proofs.Common.{◌≡◌, ◌-◌, ◌≤◌, length}
 use Rattle.vp8_replay.proofs.list.numbers.Given as goal
 
