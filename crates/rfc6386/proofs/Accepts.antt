@@ -1,17 +1,17 @@
 -- What an accepted call was made of: the definition's tests taken apart, once. By cases on each test.
-use Prim.Native.Nat.{ℕ, ◌+◌, ◌%◌, ◌^◌, ◌≤◌, ◌<◌}
+use Prim.Native.Nat.{ℕ, ◌+◌, ◌%◌, ◌^◌, ◌≤◌}
 use native.Mathlib.Omega.{arith}
 use mathlib.Core.Path.{◌≡◌, refl, ap}
 use mathlib.Core.Bool.{Bool, true, false}
 use mathlib.Core.Option.{Option, none, some}
 use mathlib.Core.List.{List, [], ◌∷◌}
-use lib.Dec.{leb, ltb, eqb, lit<}
+use lib.Dec.{leb, ltb, eqb}
 use lib.ListN.{length, drop}
 use borrow.Author.Tests.{leb-true, ltb-false}
+use Rattle.std.specs.Prelude.{Ok}
 use Rattle.vp8_records.specs.declared.Mode.{Mode}
 use Rattle.vp8_records.specs.declared.Parser.{Parser}
-use Rattle.vp8_records.specs.declared.Outcome.TheVariants.{Accepted, ChunkTooShort, InvalidStartCode, FrameTooLong}
-use Rattle.vp8_records.specs.Outcome.{number_of}
+use Rattle.vp8_records.specs.declared.Refusal.TheVariants.{ChunkTooShort, InvalidStartCode, FrameTooLong}
 use Rattle.rfc6386.specs.Bytes.{le3}
 use Rattle.rfc6386.specs.Decoder.{bits}
 use Rattle.rfc6386.specs.Coded.{Coded}
@@ -41,14 +41,6 @@ module _ (P : Opened → Type 0) (f : List ℕ) (short : P (shut ChunkTooShort))
   chunk_each long =
       decide P (leb (2 ^ 28) (length f)) _ _ (λ e. long (leb-true _ _ e))
       (choose P (ltb (length f) 3) _ _ short (choose P (eqb (le3 f 0 % 2) 0) _ _ key_each inter))
-
-abbrev Shuts : Opened → Type 0
-Shuts (shut o) = 0 < number_of o
-Shuts (opened k) = Unit {0}
-
--- a chunk that is shut has a refusal's number
-pub shuts : (f : List ℕ) → Shuts (chunk f)
-shuts f = chunk_each Shuts f (lit< tt) (lit< tt) tt tt (λ h. lit< tt)
 
 -- the bytes that the decoder runs over
 abbrev pub held_by : Mode → Chunk → List ℕ → List ℕ
@@ -96,23 +88,23 @@ pub record Accepting (md : Mode) (p : Parser) (f : List ℕ) : Type 0 where
   pub ss : List ℕ
   pub opens : chunk f ≡ opened k
   pub reading : Reading md k f c s (some ss)
-  pub answers : call md p f ≡ answer Accepted (header_of k c s ss (shown k.key (probs_over c (probs_of (base k p))))) (apply c (base k p))
+  pub answers : call md p f ≡ answer (Ok tt) (header_of k c s ss (shown k.key (probs_over c (probs_of (base k p))))) (apply c (base k p))
 
 accepts_body : (md : Mode) (p : Parser) (f : List ℕ) (k : Chunk) → chunk f ≡ opened k → call md p f ≡ finish (follows k (body md k f)) p
-    → (finish (follows k (body md k f)) p).outcome ≡ Accepted → Accepting md p f
+    → (finish (follows k (body md k f)) p).outcome ≡ Ok tt → Accepting md p f
 accepts_body md p f k o q = go (body md k f) refl q
   where
-    go : (b : Body) → body md k f ≡ b → call md p f ≡ finish (follows k b) p → (finish (follows k b) p).outcome ≡ Accepted → Accepting md p f
+    go : (b : Body) → body md k f ≡ b → call md p f ≡ finish (follows k b) p → (finish (follows k b) p).outcome ≡ Ok tt → Accepting md p f
     go (beyond x y) e q h = absurd (let z : ◌≡◌ {A = ℕ} 0 1 = cc in omega arith)
     go empty e q h = absurd (let z : ◌≡◌ {A = ℕ} 0 1 = cc in omega arith)
     go (read c s none) e q h = absurd (let z : ◌≡◌ {A = ℕ} 0 1 = cc in omega arith)
     go (read c s (some ss)) e q h =
         record { k = k; c = c; s = s; ss = ss; opens = o; reading = body_read md k f c s (some ss) e; answers = q }
 
-pub accepted : (md : Mode) (p : Parser) (f : List ℕ) → (call md p f).outcome ≡ Accepted → Accepting md p f
+pub accepted : (md : Mode) (p : Parser) (f : List ℕ) → (call md p f).outcome ≡ Ok tt → Accepting md p f
 unfolding call decode
-accepted md p f h = go (chunk f) refl (shuts f) h
+accepted md p f h = go (chunk f) refl h
   where
-    go : (x : Opened) → chunk f ≡ x → Shuts x → (finish (inside md x f) p).outcome ≡ Accepted → Accepting md p f
-    go (shut o) e z h = absurd (omega (arith, z, ap number_of h))
-    go (opened k) e z h = accepts_body md p f k e (ap (λ (x : Opened). finish (inside md x f) p) e) h
+    go : (x : Opened) → chunk f ≡ x → (finish (inside md x f) p).outcome ≡ Ok tt → Accepting md p f
+    go (shut r) e h = absurd (let z : ◌≡◌ {A = ℕ} 0 1 = cc in omega arith)
+    go (opened k) e h = accepts_body md p f k e (ap (λ (x : Opened). finish (inside md x f) p) e) h

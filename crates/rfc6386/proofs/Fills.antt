@@ -12,10 +12,10 @@ use lib.ListN.{length, take, drop, replicate, length-drop, length-append, take-a
 use lib.Pow.{pow_pos}
 use lib.Seq.{length-take-le, take_at, take-take}
 use borrow.Author.Tests.{ltb-false}
+use Rattle.std.specs.Prelude.{Ok}
 use Rattle.vp8_records.specs.declared.Mode.{Mode}
 use Rattle.vp8_records.specs.declared.Parser.{Parser}
 use Rattle.vp8_records.specs.declared.Parsed.{Parsed}
-use Rattle.vp8_records.specs.declared.Outcome.TheVariants.{Accepted}
 use Rattle.vp8_records.specs.Layout.{joined}
 use Rattle.rfc6386.specs.Decoder.{bits, start}
 use Rattle.rfc6386.specs.Coded.{Coded, header}
@@ -86,7 +86,7 @@ few_partitions : (x : ℕ) → x < 4 → 2 ^ x ≤ 8
 few_partitions x h = pow-le-pow_right {n = 2} (omega arith) {i = x} {j = 3} (omega arith)
 
 -- the parts' lengths by the header of an accepted frame add up to the frame
-module _ (md : Mode) (p : Parser) (f : List ℕ) (h : (call md p f).outcome ≡ Accepted) where
+module _ (md : Mode) (p : Parser) (f : List ℕ) (h : (call md p f).outcome ≡ Ok tt) where
   adds_up : sum (lengths (call md p f).header) ≡ length f
   unfolding header_of sum
   adds_up =

@@ -12,13 +12,14 @@ use lib.Dec.{eqb, lit<}
 use lib.ListN.{length, take, length-take}
 use lib.Seq.{take_all, take-take, length-take-le, get_or-take}
 use borrow.Author.Tests.{lt-leb, le-leb, le-ltb}
+use Rattle.std.specs.Prelude.{Ok, Err}
 use Rattle.vp8_records.specs.declared.Look.{Look}
 use Rattle.vp8_records.specs.declared.Mode.{Mode}
-use Rattle.vp8_records.specs.declared.Outcome.{Outcome}
-use Rattle.vp8_records.specs.declared.Outcome.TheVariants.{Accepted, InvalidStartCode, FrameTooLong}
+use Rattle.vp8_records.specs.declared.Refusal.{Refusal}
+use Rattle.vp8_records.specs.Outcome.{number_of}
+use Rattle.vp8_records.specs.declared.Refusal.TheVariants.{InvalidStartCode, FrameTooLong}
 use Rattle.vp8_records.specs.declared.Parsed.{Parsed}
 use Rattle.vp8_records.specs.declared.Parser.{Parser}
-use Rattle.vp8_records.specs.Outcome.{number_of}
 use Rattle.vp8_records.specs.Start.{blank}
 use Rattle.rfc6386.specs.Bytes.{le2, le3}
 use Rattle.rfc6386.specs.Frame.{Chunk, Opened, shut, opened, tagged, key_chunk, chunk, Body, beyond, empty, read, body, follows, inside, decode}
@@ -90,51 +91,51 @@ opened_fits f k e = go (dec_le (2 ^ 28) (length f))
 
 -- a chunk that is shut, of a frame that is short enough, gives 1 or 2
 abbrev Bars : Opened → Type 0
-Bars (shut o) = Early o
+Bars (shut r) = Early r
 Bars (opened k) = Unit {0}
 
 chunk_bars : (f : List ℕ) → length f < 2 ^ 28 → Bars (chunk f)
-chunk_bars f h = chunk_each Bars f (lit< tt, lit< tt) (lit< tt, lit< tt) tt tt (λ g. absurd (omega (arith, g, h)))
+chunk_bars f h = chunk_each Bars f (lit< tt) (lit< tt) tt tt (λ g. absurd (omega (arith, g, h)))
 
 -- a look refuses by 1 and 2 alone, however long the frame
-pub barred_early : (f : List ℕ) (o : Outcome) → peek f ≡ barred o → Early o
+pub barred_early : (f : List ℕ) (r : Refusal) → peek f ≡ barred r → Early r
 unfolding peek
-barred_early f o = go (chunk (take 10 f)) (chunk_bars (take 10 f) (omega (arith, length-take 10 f, min-le_left 10 (length f))))
+barred_early f r = go (chunk (take 10 f)) (chunk_bars (take 10 f) (omega (arith, length-take 10 f, min-le_left 10 (length f))))
   where
-    go : (x : Opened) → Bars x → looked x ≡ barred o → Early o
-    go (shut u) b e = let d : u ≡ o = cc in rw (← d) b
+    go : (x : Opened) → Bars x → looked x ≡ barred r → Early r
+    go (shut q) b e = let d : q ≡ r = cc in rw (← d) b
     go (opened k) b e = absurd (let z : ◌≡◌ {A = ℕ} 0 1 = cc in omega arith)
 
 module _ (md : Mode) (p : Parser) (f : List ℕ) where
   -- where a look refuses a frame under 2^28 bytes, so does the call, alike
-  pub barred_refused : length f < 2 ^ 28 → (o : Outcome) → peek f ≡ barred o → call md p f ≡ answer o blank p
+  pub barred_refused : length f < 2 ^ 28 → (r : Refusal) → peek f ≡ barred r → call md p f ≡ answer (Err r) blank p
   unfolding call decode
-  barred_refused h o e = go (chunk f) refl (sym (peek_chunk f h) ∙ e)
+  barred_refused h r e = go (chunk f) refl (sym (peek_chunk f h) ∙ e)
     where
-      go : (x : Opened) → chunk f ≡ x → looked x ≡ barred o → finish (inside md (chunk f) f) p ≡ answer o blank p
-      go (shut u) d e = let q : u ≡ o = cc in rw (d, q)
+      go : (x : Opened) → chunk f ≡ x → looked x ≡ barred r → finish (inside md (chunk f) f) p ≡ answer (Err r) blank p
+      go (shut q) d e = let same : q ≡ r = cc in rw (d, same)
       go (opened k) d e = absurd (let z : ◌≡◌ {A = ℕ} 0 1 = cc in omega arith)
 
   -- what follows a chunk that is opened is refused by 3, 4 or 5, if at all
-  body_late : (k : Chunk) (b : Body) → Early (finish (follows k b) p).outcome → ⊥
-  body_late k (beyond end n) e = omega (arith, e.1)
-  body_late k empty e = omega (arith, e.1)
-  body_late k (read c s none) e = omega (arith, e.1)
-  body_late k (read c s (some ss)) e = omega (arith, e.0)
+  body_late : (k : Chunk) (b : Body) (r : Refusal) → (finish (follows k b) p).outcome ≡ Err r → Early r → ⊥
+  body_late k (beyond end n) r h e = omega (arith, e, ap number_of h)
+  body_late k empty r h e = omega (arith, e, ap number_of h)
+  body_late k (read c s none) r h e = omega (arith, e, ap number_of h)
+  body_late k (read c s (some ss)) r h e = absurd (let z : ◌≡◌ {A = ℕ} 0 1 = cc in omega arith)
 
   -- where the call gives 1 or 2, so does a look, with the same code
-  pub refused_barred : Early (call md p f).outcome → peek f ≡ barred (call md p f).outcome
+  pub refused_barred : (r : Refusal) → (call md p f).outcome ≡ Err r → Early r → peek f ≡ barred r
   unfolding call decode
-  refused_barred e = go (dec_le (2 ^ 28) (length f)) (chunk f) refl e
+  refused_barred r h e = go (dec_le (2 ^ 28) (length f)) (chunk f) refl h
     where
-      go : Dec (2 ^ 28 ≤ length f) → (x : Opened) → chunk f ≡ x → Early (finish (inside md x f) p).outcome
-          → peek f ≡ barred (finish (inside md x f) p).outcome
-      go (no h) (shut o) d e = peek_chunk f (omega (arith, h)) ∙ ap looked d
-      go (yes h) (shut o) d e = absurd (let l = over_long f h in let q : o ≡ FrameTooLong (length f) = cc in omega (arith, e.1, ap number_of q))
-      go h (opened k) d e = absurd (body_late k (body md k f) e)
+      go : Dec (2 ^ 28 ≤ length f) → (x : Opened) → chunk f ≡ x → (finish (inside md x f) p).outcome ≡ Err r → peek f ≡ barred r
+      go (no l) (shut q) d g = let same : q ≡ r = cc in peek_chunk f (omega (arith, l)) ∙ ap looked d ∙ ap barred same
+      go (yes l) (shut q) d g =
+          absurd (let o = over_long f l in let same : r ≡ FrameTooLong (length f) = cc in omega (arith, rw same at e))
+      go l (opened k) d g = absurd (body_late k (body md k f) r g e)
 
   -- where the call accepts, a look has seen the header's own fields
-  pub accepted_seen : (call md p f).outcome ≡ Accepted → peek f ≡ seen (look_from (call md p f).header)
+  pub accepted_seen : (call md p f).outcome ≡ Ok tt → peek f ≡ seen (look_from (call md p f).header)
   unfolding header_of
   accepted_seen h =
       let a = accepted md p f h in
@@ -146,5 +147,5 @@ module _ (md : Mode) (p : Parser) (f : List ℕ) where
     where
       go : (x : Peek) → peek f ≡ x → (l : Look) × (peek f ≡ seen l)
       go (seen l) e = (l, e)
-      go (barred o) e =
-          absurd (omega (arith, n, (barred_early f o e).1, ap (λ (r : Parsed). number_of r.outcome) (barred_refused h o e)))
+      go (barred r) e =
+          absurd (omega (arith, n, barred_early f r e, ap (λ (a : Parsed). number_of a.outcome) (barred_refused h r e)))

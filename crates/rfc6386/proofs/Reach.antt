@@ -8,9 +8,9 @@ use mathlib.Core.Option.{none, some}
 use mathlib.Core.List.{List}
 use lib.Dec.{leb}
 use borrow.Author.Tests.{leb-true, leb-false}
+use Rattle.std.specs.Prelude.{Ok}
 use Rattle.vp8_records.specs.declared.Mode.{Mode}
 use Rattle.vp8_records.specs.declared.Parser.{Parser}
-use Rattle.vp8_records.specs.declared.Outcome.TheVariants.{Accepted}
 use Rattle.rfc6386.specs.Decoder.{State, bits, position, past}
 use Rattle.vp8_records.specs.Start.{blank}
 use Rattle.rfc6386.specs.Frame.{snapshot, decoded, beyond, empty, read, Said, refused, follows, decode}
@@ -35,7 +35,7 @@ reach_only l c at q r = go r.either
     go (inl e) = (omega (arith, e, r.all), omega (arith, e, r.all))
     go (inr e) = (omega (arith, e, r.all, r.within), omega (arith, e, r.all, r.within))
 
-module _ (md : Mode) (p : Parser) (f : List ℕ) (h : (call md p f).outcome ≡ Accepted) where
+module _ (md : Mode) (p : Parser) (f : List ℕ) (h : (call md p f).outcome ≡ Ok tt) where
   -- the numbers of an accepted frame's header
   pub accepted_reach : Reaches md (call md p f).header f
   unfolding header_of snapshot

@@ -1,5 +1,5 @@
 -- The second step of a call: what a frame's words make of the kept numbers (docs/RULES.md: what is kept, and the table of refusals).
-use Rattle.std.specs.Prelude.{ℕ, ◌+◌, ◌/◌, Bool, false, List, [], ◌∷◌, ◌++◌, take, replicate}
+use Rattle.std.specs.Prelude.{ℕ, ◌+◌, ◌/◌, Bool, false, List, [], ◌∷◌, ◌++◌, take, replicate, Ok, Err}
 use Rattle.std.proofs.Math.Option.{Option, none, some}
 use Rattle.vp8_records.specs.declared.Segmentation.{Segmentation}
 use Rattle.vp8_records.specs.declared.MbLfAdjustments.{MbLfAdjustments}
@@ -10,8 +10,8 @@ use Rattle.vp8_records.specs.declared.Parser.{Parser}
 use Rattle.vp8_records.specs.declared.Header.{Header}
 use Rattle.vp8_records.specs.declared.Mode.{Mode}
 use Rattle.vp8_records.specs.declared.Parsed.{Parsed}
-use Rattle.vp8_records.specs.declared.Outcome.{Outcome}
-use Rattle.vp8_records.specs.declared.Outcome.TheVariants.{Accepted, InvalidPartitionSize, EmptyArea, EndOfHeader}
+use Rattle.vp8_records.specs.Outcome.{Outcome}
+use Rattle.vp8_records.specs.declared.Refusal.TheVariants.{InvalidPartitionSize, EmptyArea, EndOfHeader}
 use Rattle.vp8_records.specs.Layout.{flat_coeffs, flat_mv, laid_coeffs, laid_mv}
 use Rattle.vp8_records.specs.Start.{fresh, key_modes, blank}
 use Rattle.rfc6386.specs.Decoder.{pick}
@@ -161,13 +161,13 @@ answer o h p = record { outcome = o; header = h; parser = p }
 
 -- a header read to its end, over the state p
 abbrev pub sized : Option (List ℕ) → Chunk → Coded → Snapshot → Parser → Parsed
-sized none k c s p = answer EndOfHeader blank (apply c p)
-sized (some ss) k c s p = answer Accepted (header_of k c s ss (shown k.key (probs_over c (probs_of p)))) (apply c p)
+sized none k c s p = answer (Err EndOfHeader) blank (apply c p)
+sized (some ss) k c s p = answer (Ok tt) (header_of k c s ss (shown k.key (probs_over c (probs_of p)))) (apply c p)
 
 abbrev pub finish : Said → Parser → Parsed
-finish (refused o) p = answer o blank p
-finish (follows k (beyond end length)) p = answer (InvalidPartitionSize end length) blank (base k p)
-finish (follows k empty) p = answer EmptyArea blank (base k (cleared p))
+finish (refused r) p = answer (Err r) blank p
+finish (follows k (beyond end length)) p = answer (Err (InvalidPartitionSize end length)) blank (base k p)
+finish (follows k empty) p = answer (Err EmptyArea) blank (base k (cleared p))
 finish (follows k (read c s ss)) p = sized ss k c s (base k p)
 
 -- one call

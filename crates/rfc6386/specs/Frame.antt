@@ -3,8 +3,8 @@ use Rattle.std.specs.Prelude.{ℕ, zero, suc, ◌+◌, ◌-◌, ◌*◌, ◌/◌
 use Rattle.std.proofs.Math.Option.{Option, none, some}
 use Rattle.vp8_records.specs.declared.Mode.{Mode}
 use Rattle.vp8_records.specs.declared.Mode.TheVariants.{Rust, Standard}
-use Rattle.vp8_records.specs.declared.Outcome.{Outcome}
-use Rattle.vp8_records.specs.declared.Outcome.TheVariants.{ChunkTooShort, InvalidStartCode, FrameTooLong}
+use Rattle.vp8_records.specs.declared.Refusal.{Refusal}
+use Rattle.vp8_records.specs.declared.Refusal.TheVariants.{ChunkTooShort, InvalidStartCode, FrameTooLong}
 use Rattle.rfc6386.specs.Bytes.{le2, le3}
 use Rattle.rfc6386.specs.Decoder.{State, Out, start, bits, whole, count_of, position, past}
 use Rattle.rfc6386.specs.Reads.{run}
@@ -45,7 +45,7 @@ abbrev pub keyed : List ℕ → Chunk
 keyed f = tagged (le3 f 0) true 10 (le2 f 6) (le2 f 8)
 
 pub data Opened : Type 0 where
-  shut : Outcome → Opened
+  shut : Refusal → Opened
   opened : Chunk → Opened
 
 -- a key frame's start code and sizes
@@ -140,11 +140,11 @@ body md k f =
     ]
 
 pub data Said : Type 0 where
-  refused : Outcome → Said
+  refused : Refusal → Said
   follows : Chunk → Body → Said
 
 abbrev pub inside : Mode → Opened → List ℕ → Said
-inside md (shut o) f = refused o
+inside md (shut r) f = refused r
 inside md (opened k) f = follows k (body md k f)
 
 unfoldable pub decode : Mode → List ℕ → Said

@@ -1,13 +1,11 @@
 -- What the first ten bytes of a frame tell, before the rest has come (sections 9.1 and 19.1): the chunk's fields, or refusal 1 or 2. The
 -- tag and the start code are read by the definition of a call's chunk; of a shorter frame all bytes are looked at.
-use Rattle.std.specs.Prelude.{ℕ, ◌<◌, Bool, false, List, [], take}
+use Rattle.std.specs.Prelude.{ℕ, ◌<◌, Bool, false, List, [], take, Result, Ok, Err}
 use Rattle.vp8_records.specs.declared.Header.{Header}
 use Rattle.vp8_records.specs.declared.Look.{Look}
-use Rattle.vp8_records.specs.declared.Outcome.{Outcome}
-use Rattle.vp8_records.specs.declared.Outcome.TheVariants.{ChunkTooShort, InvalidStartCode}
-use Rattle.vp8_records.specs.declared.Peeked.{Peeked}
-use Rattle.vp8_records.specs.declared.Peeked.TheVariants.{Seen, TooShort, StartCode}
-use Rattle.vp8_records.specs.Outcome.{Told, told, number_of}
+use Rattle.vp8_records.specs.declared.Refusal.{Refusal}
+use Rattle.vp8_records.specs.declared.PeekRefusal.{PeekRefusal}
+use Rattle.vp8_records.specs.Outcome.{Told, told, number_of, refusal_of}
 use Rattle.rfc6386.specs.Frame.{Chunk, pixels, scale, Opened, shut, opened, chunk}
 
 -- what a chunk tells
@@ -24,11 +22,11 @@ look k = record {
 }
 
 pub data Peek : Type 0 where
-  barred : Outcome → Peek
+  barred : Refusal → Peek
   seen : Look → Peek
 
 abbrev pub looked : Opened → Peek
-looked (shut o) = barred o
+looked (shut r) = barred r
 looked (opened k) = seen (look k)
 
 -- a look at a frame, or at as much of it as is there
@@ -37,18 +35,17 @@ peek f = looked (chunk (take 10 f))
 
 -- the number of a refusal and its values, by the one table of outcomes; 0 and none where the bytes told
 abbrev pub told_by : Peek → Told
-told_by (barred o) = told o
+told_by (barred r) = told (Err r)
 told_by (seen l) = record { number = 0; carried = [] }
 
--- what each case of the code's answer stands for
-abbrev pub peek_of : Peeked → Peek
-peek_of (Seen l) = seen l
-peek_of TooShort = barred ChunkTooShort
-peek_of (StartCode code) = barred (InvalidStartCode code)
+-- what the code's answer stands for
+abbrev pub peek_of : Result Look PeekRefusal → Peek
+peek_of (Ok l) = seen l
+peek_of (Err e) = barred (refusal_of e)
 
 -- refusal 1 or 2
-abbrev pub Early : Outcome → Type 0
-Early o = (0 < number_of o) × (number_of o < 3)
+abbrev pub Early : Refusal → Type 0
+Early r = number_of (Err r) < 3
 
 -- whether a key frame was seen
 abbrev pub key_seen : Peek → Bool

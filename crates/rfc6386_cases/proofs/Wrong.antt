@@ -7,11 +7,11 @@ use mathlib.Core.Bool.{Bool, true, false}
 use mathlib.Core.List.{List, [], ◌∷◌, ◌++◌, map}
 use lib.ListN.{get_or, replicate}
 use Rattle.vp8_probs.specs.Tables.{coeff_update, mv_update}
+use Rattle.std.specs.Prelude.{Ok}
 use Rattle.vp8_records.specs.declared.Header.{Header}
 use Rattle.vp8_records.specs.declared.Mode.{Mode}
 use Rattle.vp8_records.specs.declared.Mode.TheVariants.{Rust, Standard}
-use Rattle.vp8_records.specs.declared.Outcome.{Outcome}
-use Rattle.vp8_records.specs.declared.Outcome.TheVariants.{Accepted}
+use Rattle.vp8_records.specs.Outcome.{Outcome}
 use Rattle.vp8_records.specs.declared.Parsed.{Parsed}
 use Rattle.vp8_records.specs.declared.Parser.{Parser}
 use Rattle.vp8_records.specs.Start.{fresh}
@@ -46,8 +46,8 @@ modes_of = Rust ∷ Standard ∷ []
 
 -- each case in both modes at once, which takes less than one after the other; 7 over any parser, whose state is not looked at
 computed : (p : Parser)
-    → (map (λ md. seen (call md fresh six)) modes_of ≡ replicate 2 (record { outcome = Accepted; bools = 1086; key = true }))
-    × (map (λ md. seen (call md p seven)) modes_of ≡ replicate 2 (record { outcome = Accepted; bools = 1157; key = false }))
+    → (map (λ md. seen (call md fresh six)) modes_of ≡ replicate 2 (record { outcome = Ok tt; bools = 1086; key = true }))
+    × (map (λ md. seen (call md p seven)) modes_of ≡ replicate 2 (record { outcome = Ok tt; bools = 1157; key = false }))
     × (map (λ md. (call md fresh eleven).parser.segmentation.segmentation_enabled) modes_of ≡ replicate 2 true)
 unfolding coeff_update mv_update number start double normal chosen read_bool whole count_of position ◌>>=◌ run bool flag when lit_from lit
     sint make times each maybe or_else anew features segments deltas quant refresh coefficients motion modes inter header key_chunk chunk
@@ -59,10 +59,10 @@ each_mode : {A : Type 0} (g : Mode → A) (x : A) → map g modes_of ≡ replica
 each_mode g x e Rust = ap (λ (l : List _). get_or l 0 x) e
 each_mode g x e Standard = ap (λ (l : List _). get_or l 1 x) e
 
-six_is : (md : Mode) → seen (call md fresh six) ≡ record { outcome = Accepted; bools = 1086; key = true }
+six_is : (md : Mode) → seen (call md fresh six) ≡ record { outcome = Ok tt; bools = 1086; key = true }
 six_is = each_mode (λ md. seen (call md fresh six)) _ (computed fresh).0
 
-seven_is : (md : Mode) (p : Parser) → seen (call md p seven) ≡ record { outcome = Accepted; bools = 1157; key = false }
+seven_is : (md : Mode) (p : Parser) → seen (call md p seven) ≡ record { outcome = Ok tt; bools = 1157; key = false }
 seven_is md p = each_mode (λ m. seen (call m p seven)) _ (computed p).1 md
 
 eleven_is : (md : Mode) → (call md fresh eleven).parser.segmentation.segmentation_enabled ≡ true
@@ -76,10 +76,10 @@ apart : (b : Bool) → b ≡ true → b ≡ false → ⊥
 apart b p q = let z : ◌≡◌ {A = ℕ} 0 1 = cc in omega arith
 
 module _ (md : Mode) (g : Function) (meets : Meets md g) where
-  six_outcome : (g fresh six).outcome ≡ Accepted
+  six_outcome : (g fresh six).outcome ≡ Ok tt
   six_outcome = ap (λ (r : Parsed). r.outcome) (meets fresh six) ∙ ap (λ (t : Seen). t.outcome) (six_is md)
 
-  seven_outcome : (g fresh seven).outcome ≡ Accepted
+  seven_outcome : (g fresh seven).outcome ≡ Ok tt
   seven_outcome = ap (λ (r : Parsed). r.outcome) (meets fresh seven) ∙ ap (λ (t : Seen). t.outcome) (seven_is md fresh)
 
   six_key : (g fresh six).header.key_frame ≡ true

@@ -1,14 +1,13 @@
 -- Five frames whose headers have every field coded, each with what RFC 6386 makes of it: two key frames and three inter frames, in which
 -- neighbours of one width differ, so that no two of them can be crossed. The bytes were written by an encoder made from section 7.3, bool
 -- by bool in the order of section 19.2, and not by way of this definition; the numbers are those that were given to it.
-use Rattle.std.specs.Prelude.{ℕ, true, false, List, [], ◌∷◌, pos, neg_ℤ, replicate, set}
+use Rattle.std.specs.Prelude.{ℕ, true, false, List, [], ◌∷◌, pos, neg_ℤ, replicate, set, Ok}
 use Rattle.vp8_probs.specs.Tables.{coeff_default, mv_default}
 use Rattle.vp8_records.specs.declared.Mode.{Mode}
 use Rattle.vp8_records.specs.declared.Mode.TheVariants.{Rust, Standard}
 use Rattle.vp8_records.specs.declared.Parser.{Parser}
 use Rattle.vp8_records.specs.declared.Header.{Header}
 use Rattle.vp8_records.specs.declared.Parsed.{Parsed}
-use Rattle.vp8_records.specs.declared.Outcome.TheVariants.{Accepted}
 use Rattle.vp8_records.specs.Layout.{laid_coeffs, laid_mv}
 use Rattle.vp8_records.specs.Start.{fresh}
 use Rattle.rfc6386_cases.specs.Cases.{marked}
@@ -531,7 +530,7 @@ pub record Example : Type 0 where
   pub answer : Parsed
 
 abbrev accepts : List ℕ → Parser → Header → Parser → Mode → Example
-accepts f p h q md = record { mode = md; bytes = f; over = p; answer = record { outcome = Accepted; header = h; parser = q } }
+accepts f p h q md = record { mode = md; bytes = f; over = p; answer = record { outcome = Ok tt; header = h; parser = q } }
 
 unfoldable pub examples : List Example
 examples =

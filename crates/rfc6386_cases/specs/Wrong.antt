@@ -1,9 +1,8 @@
 -- Five wrong parsers, each a property of a function from a record and a frame to an answer. None that has it meets the contract of
 -- `parse`, or of `parse_in` in either mode (proofs/Wrong.antt).
-use Rattle.std.specs.Prelude.{ℕ, ◌≡◌, List}
+use Rattle.std.specs.Prelude.{ℕ, ◌≡◌, List, Ok}
 use Rattle.vp8_records.specs.declared.Header.{Header}
 use Rattle.vp8_records.specs.declared.Mode.{Mode}
-use Rattle.vp8_records.specs.declared.Outcome.TheVariants.{Accepted}
 use Rattle.vp8_records.specs.declared.Parsed.{Parsed}
 use Rattle.vp8_records.specs.declared.Parser.{Parser}
 use Rattle.vp8_records.specs.Start.{fresh}
@@ -18,11 +17,11 @@ Meets md g = (p : Parser) (f : List ℕ) → g p f ≡ call md p f
 
 -- 1: it refuses every frame
 abbrev pub RefusesAll : Function → Type 0
-RefusesAll g = (p : Parser) (f : List ℕ) → (g p f).outcome ≡ Accepted → ⊥
+RefusesAll g = (p : Parser) (f : List ℕ) → (g p f).outcome ≡ Ok tt → ⊥
 
 -- 2: every accepted frame has this header
 abbrev pub FixedHeader : Header → Function → Type 0
-FixedHeader h g = (p : Parser) (f : List ℕ) → (g p f).outcome ≡ Accepted → (g p f).header ≡ h
+FixedHeader h g = (p : Parser) (f : List ℕ) → (g p f).outcome ≡ Ok tt → (g p f).header ≡ h
 
 -- 3: it hands the record back untouched
 abbrev pub Untouched : Function → Type 0
@@ -36,7 +35,7 @@ Repeats g = (f f' : List ℕ) → (g (g fresh f).parser f').header ≡ (g fresh 
 pub record Invents (md : Mode) (g : Function) : Type 0 where
   pub parser : Parser
   pub frame : List ℕ
-  pub accepted : (call md parser frame).outcome ≡ Accepted
+  pub accepted : (call md parser frame).outcome ≡ Ok tt
   pub other : (g parser frame).header.bools ≡ (call md parser frame).header.bools → ⊥
 
 -- as one that always gives the same count

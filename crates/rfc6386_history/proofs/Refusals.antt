@@ -10,13 +10,14 @@ use mathlib.Core.List.{List, [], ◌∷◌, map}
 use lib.Dec.{ltb, eqb}
 use lib.ListN.{length, get_or}
 use borrow.Author.Tests.{eqb-true, eq-eqb}
+use Rattle.std.specs.Prelude.{Ok, Err}
 use Rattle.vp8_records.specs.declared.Mode.{Mode}
 use Rattle.vp8_records.specs.declared.Parser.{Parser}
 use Rattle.vp8_records.specs.declared.Parsed.{Parsed}
-use Rattle.vp8_records.specs.declared.Outcome.{Outcome}
-use Rattle.vp8_records.specs.declared.Outcome.TheVariants.{Accepted, ChunkTooShort, InvalidStartCode, InvalidPartitionSize, EmptyArea, EndOfHeader, FrameTooLong}
+use Rattle.vp8_records.specs.declared.Refusal.{Refusal}
+use Rattle.vp8_records.specs.Outcome.{Outcome, number_of, carried_by}
+use Rattle.vp8_records.specs.declared.Refusal.TheVariants.{ChunkTooShort, InvalidStartCode, InvalidPartitionSize, EmptyArea, EndOfHeader, FrameTooLong}
 use Rattle.vp8_records.specs.Outcome as Tell
-use Rattle.vp8_records.specs.Outcome.{number_of, carried_by}
 use Rattle.vp8_records.specs.Start.{blank}
 use Rattle.rfc6386.specs.Bytes.{le2, le3}
 use Rattle.rfc6386.specs.Decoder.{pick}
@@ -71,13 +72,13 @@ module _ (md : Mode) (p : Parser) where
   told_read : (k : Chunk) (c : Coded) (s : Snapshot) (n : ℕ) (xs : List ℕ) (first : ℕ)
       → let from = first + 3 * (n - 1) in
       let beyond = ltb (length xs) from || ltb (length xs) (from + sum (coded_sizes (n - 1) xs first)) in
-      Told (finish (follows k (read c s (sizes n xs first))) p) (pick beyond EndOfHeader Accepted) (base k) c p
+      Told (finish (follows k (read c s (sizes n xs first))) p) (pick beyond (Err EndOfHeader) (Ok tt)) (base k) c p
   unfolding sizes
   told_read k c s n xs first = go (ltb (length xs) _) (ltb (length xs) _) _
     where
       go : (a b : Bool) (ss : List ℕ)
           → Told (finish (follows k (read c s (elim a [ true ↦ none | false ↦ elim b [ true ↦ none | false ↦ some ss ] ]))) p)
-          (pick (a || b) EndOfHeader Accepted) (base k) c p
+          (pick (a || b) (Err EndOfHeader) (Ok tt)) (base k) c p
       go true b ss = refl
       go false true ss = refl
       go false false ss = refl
@@ -111,8 +112,8 @@ module _ (md : Mode) (p : Parser) where
               | false ↦ elim bytes [ [] ↦ empty | b ∷ bs ↦ headed k (area key f) (b ∷ bs) (decoded md key (b ∷ bs)) ]
             ]))
             p)
-            (pick a (InvalidPartitionSize (chunk_size key + first_size f) (length f))
-            (pick (is_empty bytes) EmptyArea (pick (beyond_in bytes) EndOfHeader Accepted)))
+            (pick a (Err (InvalidPartitionSize (chunk_size key + first_size f) (length f)))
+            (pick (is_empty bytes) (Err EmptyArea) (pick (beyond_in bytes) (Err EndOfHeader) (Ok tt))))
             (base k) (got bytes) p
         go true bytes = refl
         go false [] = refl
@@ -125,9 +126,9 @@ module _ (md : Mode) (p : Parser) where
       where
         go : (a b key d e g : Bool)
             → Told (finish (inside md (chunk_by f a b key d e g) f) p)
-            (pick a (FrameTooLong (length f))
-            (pick (b || key && (d || e && g)) ChunkTooShort
-            (pick (key && not d && not e) (InvalidStartCode (le3 f 3)) (after_chunk md key f))))
+            (pick a (Err (FrameTooLong (length f)))
+            (pick (b || key && (d || e && g)) (Err ChunkTooShort)
+            (pick (key && not d && not e) (Err (InvalidStartCode (le3 f 3))) (after_chunk md key f))))
             (base_of key f) (coded md key f) p
         go true b key d e g = refl
         go false true key d e g = refl
@@ -140,30 +141,31 @@ module _ (md : Mode) (p : Parser) where
 -- the table by its causes, in order
 abbrev outcome_by : List ℕ → Bool → Bool → Bool → Bool → Bool → Bool → Outcome
 outcome_by f a b c d e g =
-    pick a (FrameTooLong (length f))
-    (pick b ChunkTooShort
-    (pick c (InvalidStartCode (le3 f 3))
-    (pick d (InvalidPartitionSize (chunk_size (key_of f) + first_size f) (length f)) (pick e EmptyArea (pick g EndOfHeader Accepted)))))
+    pick a (Err (FrameTooLong (length f)))
+    (pick b (Err ChunkTooShort)
+    (pick c (Err (InvalidStartCode (le3 f 3)))
+    (pick d (Err (InvalidPartitionSize (chunk_size (key_of f) + first_size f) (length f)))
+    (pick e (Err EmptyArea) (pick g (Err EndOfHeader) (Ok tt))))))
 
 -- an outcome with the numbers of the column "Carries"
 abbrev carrying : List ℕ → Outcome → Outcome
-carrying f (FrameTooLong n) = FrameTooLong (length f)
-carrying f ChunkTooShort = ChunkTooShort
-carrying f (InvalidStartCode code) = InvalidStartCode (le3 f 3)
-carrying f (InvalidPartitionSize end n) = InvalidPartitionSize (chunk_size (key_of f) + first_size f) (length f)
-carrying f EmptyArea = EmptyArea
-carrying f EndOfHeader = EndOfHeader
-carrying f Accepted = Accepted
+carrying f (Ok u) = Ok u
+carrying f (Err ChunkTooShort) = Err ChunkTooShort
+carrying f (Err (InvalidStartCode code)) = Err (InvalidStartCode (le3 f 3))
+carrying f (Err (InvalidPartitionSize end n)) = Err (InvalidPartitionSize (chunk_size (key_of f) + first_size f) (length f))
+carrying f (Err EmptyArea) = Err EmptyArea
+carrying f (Err EndOfHeader) = Err EndOfHeader
+carrying f (Err (FrameTooLong n)) = Err (FrameTooLong (length f))
 
 -- whether what an outcome leaves starts from the fresh parser
 abbrev pub resets : Outcome → Bool → Bool
-resets (FrameTooLong n) key = false
-resets ChunkTooShort key = false
-resets (InvalidStartCode code) key = false
-resets (InvalidPartitionSize end n) key = key
-resets EmptyArea key = key
-resets EndOfHeader key = key
-resets Accepted key = key
+resets (Err (FrameTooLong n)) key = false
+resets (Err ChunkTooShort) key = false
+resets (Err (InvalidStartCode code)) key = false
+resets (Err (InvalidPartitionSize end n)) key = key
+resets (Err EmptyArea) key = key
+resets (Err EndOfHeader) key = key
+resets (Ok u) key = key
 
 -- what the causes say of the outcome: which of the seven numbers it has, what it carries, whether it resets
 record Rows (f : List ℕ) (a b c d e g : Bool) : Type 0 where
@@ -214,46 +216,42 @@ module _ (md : Mode) (p : Parser) (f : List ℕ) where
   refused_blank h = ap (λ (a : Parsed). a.header) (told md p f) ∙ go (outcome_of md f) (rw outcome_is at h)
     where
       go : (o : Outcome) → 0 < number_of o → head_of o (call md p f).header ≡ blank
-      go Accepted n = absurd (omega arith)
-      go ChunkTooShort n = refl
-      go (InvalidStartCode code) n = refl
-      go (InvalidPartitionSize end m) n = refl
-      go EmptyArea n = refl
-      go EndOfHeader n = refl
-      go (FrameTooLong m) n = refl
+      go (Ok u) n = absurd (omega arith)
+      go (Err r) n = refl
 
-  refused : (o : Outcome) → 0 < number_of o → (call md p f).outcome ≡ o
-      → Refused (call md p f) (number_of o) (carried_by (carrying f o)) (left o (base_of (key_of f) f) (coded md (key_of f) f) p)
-  refused o n e = record {
+  refused : (r : Refusal) → (call md p f).outcome ≡ Err r
+      → Refused (call md p f) (number_of (Err r)) (carried_by (carrying f (Err r)))
+      (left (Err r) (base_of (key_of f) f) (coded md (key_of f) f) p)
+  refused r e = record {
     number = ap number_of e;
-    carries = ap (λ (a : Parsed). carried_by a.outcome) (row o e);
-    header = refused_blank (rw e n);
-    leaves = ap (λ (a : Parsed). a.parser) (row o e);
+    carries = ap (λ (a : Parsed). carried_by a.outcome) (row (Err r) e);
+    header = ap (λ (a : Parsed). a.header) (row (Err r) e);
+    leaves = ap (λ (a : Parsed). a.parser) (row (Err r) e);
   }
 
   -- what each refusal carries and leaves, row by row
-  pub refused_6 : (n : ℕ) → (call md p f).outcome ≡ FrameTooLong n → Refused (call md p f) 6 (length f ∷ []) p
-  refused_6 n = refused (FrameTooLong n) (omega arith)
+  pub refused_6 : (n : ℕ) → (call md p f).outcome ≡ Err (FrameTooLong n) → Refused (call md p f) 6 (length f ∷ []) p
+  refused_6 n = refused (FrameTooLong n)
 
-  pub refused_1 : (call md p f).outcome ≡ ChunkTooShort → Refused (call md p f) 1 [] p
-  refused_1 = refused ChunkTooShort (omega arith)
+  pub refused_1 : (call md p f).outcome ≡ Err ChunkTooShort → Refused (call md p f) 1 [] p
+  refused_1 = refused ChunkTooShort
 
-  pub refused_2 : (code : ℕ) → (call md p f).outcome ≡ InvalidStartCode code → Refused (call md p f) 2 (le3 f 3 ∷ []) p
-  refused_2 code = refused (InvalidStartCode code) (omega arith)
+  pub refused_2 : (code : ℕ) → (call md p f).outcome ≡ Err (InvalidStartCode code) → Refused (call md p f) 2 (le3 f 3 ∷ []) p
+  refused_2 code = refused (InvalidStartCode code)
 
-  pub refused_3 : (end n : ℕ) → (call md p f).outcome ≡ InvalidPartitionSize end n
+  pub refused_3 : (end n : ℕ) → (call md p f).outcome ≡ Err (InvalidPartitionSize end n)
       → Refused (call md p f) 3 ((chunk_size (key_of f) + first_size f) ∷ length f ∷ []) (base_of (key_of f) f p)
-  refused_3 end n = refused (InvalidPartitionSize end n) (omega arith)
+  refused_3 end n = refused (InvalidPartitionSize end n)
 
-  pub refused_4 : (call md p f).outcome ≡ EmptyArea → Refused (call md p f) 4 [] (base_of (key_of f) f (cleared p))
-  refused_4 = refused EmptyArea (omega arith)
+  pub refused_4 : (call md p f).outcome ≡ Err EmptyArea → Refused (call md p f) 4 [] (base_of (key_of f) f (cleared p))
+  refused_4 = refused EmptyArea
 
-  pub refused_5 : (call md p f).outcome ≡ EndOfHeader → Refused (call md p f) 5 [] (apply (coded md (key_of f) f) (base_of (key_of f) f p))
-  refused_5 = refused EndOfHeader (omega arith)
+  pub refused_5 : (call md p f).outcome ≡ Err EndOfHeader → Refused (call md p f) 5 [] (apply (coded md (key_of f) f) (base_of (key_of f) f p))
+  refused_5 = refused EndOfHeader
 
   -- and what an accepted frame leaves
-  pub accepted_leaves : (call md p f).outcome ≡ Accepted → (call md p f).parser ≡ apply (coded md (key_of f) f) (base_of (key_of f) f p)
-  accepted_leaves e = ap (λ (a : Parsed). a.parser) (row Accepted e)
+  pub accepted_leaves : (call md p f).outcome ≡ Ok tt → (call md p f).parser ≡ apply (coded md (key_of f) f) (base_of (key_of f) f p)
+  accepted_leaves e = ap (λ (a : Parsed). a.parser) (row (Ok tt) e)
 
   decided : (n : ℕ) (b : Bool) → eqb (number_of (outcome_of md f)) n ≡ b → (number_of (call md p f).outcome ≡ n) ↔ (b ≡ true)
   decided n b e = rw outcome_is (λ h. sym e ∙ eq-eqb _ n h, λ h. eqb-true _ n (e ∙ h))
@@ -277,16 +275,16 @@ module _ (md : Mode) (p : Parser) (f : List ℕ) where
 -- an outcome from its number and what it carries
 abbrev back : Tell.Told → Outcome
 back t = elim t.number [
-  | zero ↦ Accepted
+  | zero ↦ Ok tt
   | suc a ↦ elim a [
-    | zero ↦ ChunkTooShort
+    | zero ↦ Err ChunkTooShort
     | suc b ↦ elim b [
-      | zero ↦ InvalidStartCode (get_or t.carried 0 0)
+      | zero ↦ Err (InvalidStartCode (get_or t.carried 0 0))
       | suc c ↦ elim c [
-        | zero ↦ InvalidPartitionSize (get_or t.carried 0 0) (get_or t.carried 1 0)
+        | zero ↦ Err (InvalidPartitionSize (get_or t.carried 0 0) (get_or t.carried 1 0))
         | suc d ↦ elim d [
-          | zero ↦ EmptyArea
-          | suc e ↦ elim e [ zero ↦ EndOfHeader | suc g ↦ FrameTooLong (get_or t.carried 0 0) ]
+          | zero ↦ Err EmptyArea
+          | suc e ↦ elim e [ zero ↦ Err EndOfHeader | suc g ↦ Err (FrameTooLong (get_or t.carried 0 0)) ]
         ]
       ]
     ]
@@ -294,13 +292,13 @@ back t = elim t.number [
 ]
 
 back_is : (o : Outcome) → back (Tell.told o) ≡ o
-back_is Accepted = refl
-back_is ChunkTooShort = refl
-back_is (InvalidStartCode code) = refl
-back_is (InvalidPartitionSize end n) = refl
-back_is EmptyArea = refl
-back_is EndOfHeader = refl
-back_is (FrameTooLong n) = refl
+back_is (Ok u) = refl
+back_is (Err ChunkTooShort) = refl
+back_is (Err (InvalidStartCode code)) = refl
+back_is (Err (InvalidPartitionSize end n)) = refl
+back_is (Err EmptyArea) = refl
+back_is (Err EndOfHeader) = refl
+back_is (Err (FrameTooLong n)) = refl
 
 -- number and values are all that an outcome says
 pub told_apart : (o o' : Outcome) → Tell.told o ≡ Tell.told o' → o ≡ o'

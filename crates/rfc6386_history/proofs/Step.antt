@@ -10,10 +10,11 @@ use lib.Dec.{ltb, lit≤}
 use lib.IntN.{ℤ, pos}
 use lib.ListN.{length, get_or}
 use borrow.Author.Tests.{ltb-true, lt-ltb}
+use Rattle.std.specs.Prelude.{Ok, Err}
 use Rattle.vp8_records.specs.declared.Mode.{Mode}
 use Rattle.vp8_records.specs.declared.Parser.{Parser}
-use Rattle.vp8_records.specs.declared.Outcome.{Outcome}
-use Rattle.vp8_records.specs.declared.Outcome.TheVariants.{Accepted, ChunkTooShort, InvalidStartCode, InvalidPartitionSize, EmptyArea, EndOfHeader, FrameTooLong}
+use Rattle.vp8_records.specs.Outcome.{Outcome}
+use Rattle.vp8_records.specs.declared.Refusal.TheVariants.{ChunkTooShort, InvalidStartCode, InvalidPartitionSize, EmptyArea, EndOfHeader, FrameTooLong}
 use Rattle.vp8_records.specs.Layout.{joined}
 use Rattle.vp8_records.specs.Start.{fresh}
 use Rattle.rfc6386.specs.Decoder.{pick}
@@ -93,13 +94,13 @@ module _
 
   left_keeps : (x : Asked) (o : Outcome) (p : Parser) → P p
       → P (left o (base_of (key_of x.frame) x.frame) (coded x.mode (key_of x.frame) x.frame) p)
-  left_keeps x (FrameTooLong n) p h = h
-  left_keeps x ChunkTooShort p h = h
-  left_keeps x (InvalidStartCode code) p h = h
-  left_keeps x (InvalidPartitionSize end n) p h = base_keeps (key_of x.frame) x.frame p h
-  left_keeps x EmptyArea p h = base_keeps (key_of x.frame) x.frame (cleared p) (of-cleared p h)
-  left_keeps x EndOfHeader p h = of-applied x _ (base_keeps (key_of x.frame) x.frame p h)
-  left_keeps x Accepted p h = of-applied x _ (base_keeps (key_of x.frame) x.frame p h)
+  left_keeps x (Err (FrameTooLong n)) p h = h
+  left_keeps x (Err ChunkTooShort) p h = h
+  left_keeps x (Err (InvalidStartCode code)) p h = h
+  left_keeps x (Err (InvalidPartitionSize end n)) p h = base_keeps (key_of x.frame) x.frame p h
+  left_keeps x (Err EmptyArea) p h = base_keeps (key_of x.frame) x.frame (cleared p) (of-cleared p h)
+  left_keeps x (Err EndOfHeader) p h = of-applied x _ (base_keeps (key_of x.frame) x.frame p h)
+  left_keeps x (Ok u) p h = of-applied x _ (base_keeps (key_of x.frame) x.frame p h)
 
   pub call_keeps : (p : Parser) (x : Asked) → P p → P (called p x).parser
   call_keeps p x h = rw (left_is x.mode p x.frame) (left_keeps x (outcome_of x.mode x.frame) p h)
@@ -124,26 +125,26 @@ unfolding over
 moves_none p = record { fits = zero-le; is = refl }
 
 moves_empty : (key : Bool) (f : List ℕ) (c : Coded) (p : Parser)
-    → Moves (wrote EmptyArea key c) (pick key fresh p) (base_of key f (cleared p))
+    → Moves (wrote (Err EmptyArea) key c) (pick key fresh p) (base_of key f (cleared p))
 unfolding over numbers joined cleared
 moves_empty true f c p = moves_none fresh
 moves_empty false f c p = record { fits = omega arith; is = refl }
 
 moves_all : (key : Bool) (f : List ℕ) (c : Coded) (p : Parser) → Sized p
-    → Moves (wrote Accepted key c) (pick key fresh p) (apply c (base_of key f p))
+    → Moves (wrote (Ok tt) key c) (pick key fresh p) (apply c (base_of key f p))
 moves_all key f c p s =
     let w = applied c (base_of key f p) (sized_base key f p s) in
     record { fits = omega (arith, w.same); is = w.is }
 
 moves : (o : Outcome) (key : Bool) (f : List ℕ) (c : Coded) (p : Parser) → Sized p
     → Moves (wrote o key c) (pick (resets o key) fresh p) (left o (base_of key f) c p)
-moves (FrameTooLong n) key f c p s = moves_none p
-moves ChunkTooShort key f c p s = moves_none p
-moves (InvalidStartCode code) key f c p s = moves_none p
-moves (InvalidPartitionSize end n) key f c p s = moves_none (base_of key f p)
-moves EmptyArea key f c p s = moves_empty key f c p
-moves EndOfHeader key f c p s = moves_all key f c p s
-moves Accepted key f c p s = moves_all key f c p s
+moves (Err (FrameTooLong n)) key f c p s = moves_none p
+moves (Err ChunkTooShort) key f c p s = moves_none p
+moves (Err (InvalidStartCode code)) key f c p s = moves_none p
+moves (Err (InvalidPartitionSize end n)) key f c p s = moves_none (base_of key f p)
+moves (Err EmptyArea) key f c p s = moves_empty key f c p
+moves (Err EndOfHeader) key f c p s = moves_all key f c p s
+moves (Ok u) key f c p s = moves_all key f c p s
 
 -- a number after a call: what the frame writes to it, or else what the frame started from
 pub writes_one : (p : Parser) (x : Asked) (i : ℕ) → Sized p

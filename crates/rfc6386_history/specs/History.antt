@@ -1,10 +1,10 @@
 -- Which frames cut off the past, and what a frame writes to each kept number. It is written from the rules on what is kept and the
 -- refusal table (docs/RULES.md), and not from the definition of a call; proofs/History.antt shows that calls follow it.
-use Rattle.std.specs.Prelude.{ℕ, zero, suc, ◌≡◌, Bool, true, false, not, ◌&&◌, ◌||◌, List, [], ◌∷◌, map, ltb, ℤ, pos, length, get_or}
+use Rattle.std.specs.Prelude.{ℕ, zero, suc, ◌≡◌, Bool, true, false, not, ◌&&◌, ◌||◌, List, [], ◌∷◌, map, ltb, ℤ, pos, length, get_or, Ok, Err}
 use Rattle.std.proofs.Math.Option
 use Rattle.std.proofs.Math.Option.{Option, none, some}
-use Rattle.vp8_records.specs.declared.Outcome.{Outcome}
-use Rattle.vp8_records.specs.declared.Outcome.TheVariants.{Accepted, ChunkTooShort, InvalidStartCode, InvalidPartitionSize, EmptyArea, EndOfHeader, FrameTooLong}
+use Rattle.vp8_records.specs.Outcome.{Outcome}
+use Rattle.vp8_records.specs.declared.Refusal.TheVariants.{ChunkTooShort, InvalidStartCode, InvalidPartitionSize, EmptyArea, EndOfHeader, FrameTooLong}
 use Rattle.rfc6386.specs.Decoder.{pick}
 use Rattle.rfc6386.specs.Runs.{or}
 use Rattle.rfc6386.specs.Coded.{Coded}
@@ -71,13 +71,13 @@ written c =
 
 -- what a frame writes; a reset is no write, since the past is cut off there
 abbrev pub wrote : Outcome → Bool → Coded → List (Option ℤ)
-wrote Accepted key c = written c
-wrote EndOfHeader key c = written c
-wrote EmptyArea key c = pick key [] (none ∷ always false ∷ always false ∷ [])
-wrote (InvalidPartitionSize end n) key c = []
-wrote (InvalidStartCode code) key c = []
-wrote ChunkTooShort key c = []
-wrote (FrameTooLong n) key c = []
+wrote (Ok u) key c = written c
+wrote (Err EndOfHeader) key c = written c
+wrote (Err EmptyArea) key c = pick key [] (none ∷ always false ∷ always false ∷ [])
+wrote (Err (InvalidPartitionSize end n)) key c = []
+wrote (Err (InvalidStartCode code)) key c = []
+wrote (Err ChunkTooShort) key c = []
+wrote (Err (FrameTooLong n)) key c = []
 
 -- what a call writes to number i
 unfoldable pub writes : Asked → ℕ → Option ℤ

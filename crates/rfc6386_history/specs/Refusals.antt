@@ -1,13 +1,12 @@
 -- The table of refusals (docs/RULES.md), from the bytes of a frame: `outcome_of` is its columns "Exactly when" and "Carries", `left` its
 -- column "State left". proofs/Refusals.antt shows that every call is as it says.
-use Rattle.std.specs.Prelude.{ℕ, ◌+◌, ◌-◌, ◌*◌, ◌/◌, ◌%◌, ◌^◌, ◌↔◌, ◌≡◌, Bool, true, false, not, ◌&&◌, ◌||◌, List, [], ◌∷◌, leb, ltb, eqb, length, drop}
+use Rattle.std.specs.Prelude.{ℕ, ◌+◌, ◌-◌, ◌*◌, ◌/◌, ◌%◌, ◌^◌, ◌↔◌, ◌≡◌, Bool, true, false, not, ◌&&◌, ◌||◌, List, [], ◌∷◌, leb, ltb, eqb, length, drop, Ok, Err}
 use Rattle.vp8_records.specs.declared.Mode.{Mode}
 use Rattle.vp8_records.specs.declared.Parser.{Parser}
 use Rattle.vp8_records.specs.declared.Header.{Header}
-use Rattle.vp8_records.specs.declared.Outcome.{Outcome}
-use Rattle.vp8_records.specs.declared.Outcome.TheVariants.{Accepted, ChunkTooShort, InvalidStartCode, InvalidPartitionSize, EmptyArea, EndOfHeader, FrameTooLong}
+use Rattle.vp8_records.specs.Outcome.{Outcome, number_of, carried_by}
+use Rattle.vp8_records.specs.declared.Refusal.TheVariants.{ChunkTooShort, InvalidStartCode, InvalidPartitionSize, EmptyArea, EndOfHeader, FrameTooLong}
 use Rattle.vp8_records.specs.declared.Parsed.{Parsed}
-use Rattle.vp8_records.specs.Outcome.{number_of, carried_by}
 use Rattle.vp8_records.specs.Start.{blank}
 use Rattle.rfc6386.specs.Bytes.{le3}
 use Rattle.rfc6386.specs.Decoder.{pick}
@@ -80,14 +79,14 @@ sizes_beyond md key f =
 -- 3, 4 and 5, with what they carry
 abbrev pub after_chunk : Mode → Bool → List ℕ → Outcome
 after_chunk md key f =
-    pick (beyond_end key f) (InvalidPartitionSize (chunk_size key + first_size f) (length f))
-    (pick (is_empty (held_of md key f)) EmptyArea (pick (sizes_beyond md key f) EndOfHeader Accepted))
+    pick (beyond_end key f) (Err (InvalidPartitionSize (chunk_size key + first_size f) (length f)))
+    (pick (is_empty (held_of md key f)) (Err EmptyArea) (pick (sizes_beyond md key f) (Err EndOfHeader) (Ok tt)))
 
 -- all six, in order of checking
 unfoldable pub outcome_of : Mode → List ℕ → Outcome
 outcome_of md f =
-    pick (too_long f) (FrameTooLong (length f))
-    (pick (too_short f) ChunkTooShort (pick (other_code f) (InvalidStartCode (le3 f 3)) (after_chunk md (key_of f) f)))
+    pick (too_long f) (Err (FrameTooLong (length f)))
+    (pick (too_short f) (Err ChunkTooShort) (pick (other_code f) (Err (InvalidStartCode (le3 f 3))) (after_chunk md (key_of f) f)))
 
 -- the state that a key frame or another starts from, once its chunk is valid: reset if key, else unchanged
 abbrev pub base_of : Bool → List ℕ → Parser → Parser
@@ -95,23 +94,18 @@ base_of key f p = pick key (reset (keyed f)) p
 
 -- the state left, by what the frame starts from and its coded fields; it is "as after the header" for 5 and for an accepted frame
 abbrev pub left : Outcome → (Parser → Parser) → Coded → Parser → Parser
-left (FrameTooLong n) base c p = p
-left ChunkTooShort base c p = p
-left (InvalidStartCode code) base c p = p
-left (InvalidPartitionSize end n) base c p = base p
-left EmptyArea base c p = base (cleared p)
-left EndOfHeader base c p = apply c (base p)
-left Accepted base c p = apply c (base p)
+left (Err (FrameTooLong n)) base c p = p
+left (Err ChunkTooShort) base c p = p
+left (Err (InvalidStartCode code)) base c p = p
+left (Err (InvalidPartitionSize end n)) base c p = base p
+left (Err EmptyArea) base c p = base (cleared p)
+left (Err EndOfHeader) base c p = apply c (base p)
+left (Ok u) base c p = apply c (base p)
 
 -- a refusal has the blank header
 abbrev pub head_of : Outcome → Header → Header
-head_of Accepted h = h
-head_of ChunkTooShort h = blank
-head_of (InvalidStartCode code) h = blank
-head_of (InvalidPartitionSize end n) h = blank
-head_of EmptyArea h = blank
-head_of EndOfHeader h = blank
-head_of (FrameTooLong n) h = blank
+head_of (Ok u) h = h
+head_of (Err r) h = blank
 
 -- an answer is the refusal n: it carries these values, has the blank header, and leaves this state
 pub record Refused (a : Parsed) (n : ℕ) (values : List ℕ) (state : Parser) : Type 0 where

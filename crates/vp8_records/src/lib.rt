@@ -1,17 +1,17 @@
 // The records of parser.rs, with its names and order, and the starting values that belong to them.
 #![tactic(auto)]
 
-ghost use Rattle.std.specs.Prelude.{◌≡◌, ◌+◌, ◌*◌, ◌^◌, ◌<◌, ◌≤◌, length, take, drop};
+ghost use Rattle.std.specs.Prelude.{Err, ◌≡◌, ◌+◌, ◌*◌, ◌^◌, ◌<◌, ◌≤◌, length, take, drop, sum};
 ghost use Rattle.vp8_records.specs.Layout.{coeff_index, laid_mv_context, laid_mv};
 ghost use Rattle.vp8_records.specs.Start.{fresh_segmentation, fresh_adjustments, fresh_coeffs, fresh_mv, fresh_modes, key_modes, fresh};
 ghost use Rattle.vp8_records.specs.Start.{no_quant, no_coeffs, no_mv, no_modes, blank};
 ghost use Rattle.vp8_records.specs.Place.{further};
-ghost use Rattle.vp8_records.specs.Outcome.{number_of};
+ghost use Rattle.vp8_records.specs.Outcome.{number_of, refusal_of};
 ghost use Rattle.vp8_records.specs.Mode.{mode_of};
-ghost use Rattle.vp8_records.specs.Length.{total, partitions_of, length_of};
+ghost use Rattle.vp8_records.specs.Length.{partitions_of, length_of};
 
 // The quantizer indices (RFC 6386 section 9.6).
-#[derive(Clone, Copy)]
+#[derive(Clone, Copy, PartialEq, Eq, Debug)]
 pub struct QuantIndices {
     // The base index, of the luma AC coefficients (9.6).
     pub y_ac_qi: u8,
@@ -28,7 +28,7 @@ pub struct QuantIndices {
 }
 
 // The filter's adjustments by reference frame and mode (RFC 6386 section 9.4).
-#[derive(Clone, Copy)]
+#[derive(Clone, Copy, PartialEq, Eq, Debug)]
 pub struct MbLfAdjustments {
     // Whether levels are adjusted at all (9.4).
     pub loop_filter_adj_enable: bool,
@@ -41,7 +41,7 @@ pub struct MbLfAdjustments {
 }
 
 // The adjustments by segment (RFC 6386 section 9.3).
-#[derive(Clone, Copy)]
+#[derive(Clone, Copy, PartialEq, Eq, Debug)]
 pub struct Segmentation {
     // Whether macroblocks belong to segments (9.3).
     pub segmentation_enabled: bool,
@@ -60,7 +60,7 @@ pub struct Segmentation {
 }
 
 // The probabilities by which prediction modes are coded in inter frames (RFC 6386 sections 9.10 and 16.2).
-#[derive(Clone, Copy)]
+#[derive(Clone, Copy, PartialEq, Eq, Debug)]
 pub struct ModeProbs {
     // Of the luma modes (16.2).
     pub intra_16x16_prob: [u8; 4],
@@ -69,28 +69,28 @@ pub struct ModeProbs {
 }
 
 // The coefficient probabilities, as one run: `coeff_index` tells where an entry stands.
-#[derive(Clone, Copy)]
+#[derive(Clone, Copy, PartialEq, Eq, Debug)]
 pub struct CoeffProbs {
     // One for each block type, band, context and place of the token tree (13.3).
     pub v: [u8; 1056],
 }
 
 // The nineteen probabilities of one component of a motion vector.
-#[derive(Clone, Copy)]
+#[derive(Clone, Copy, PartialEq, Eq, Debug)]
 pub struct MvContext {
     // One for each place of a component's code (17.2).
     pub v: [u8; 19],
 }
 
 // The motion probabilities of both components.
-#[derive(Clone, Copy)]
+#[derive(Clone, Copy, PartialEq, Eq, Debug)]
 pub struct MvProbs {
     // The row's, then the column's (17.2).
     pub v: [MvContext; 2],
 }
 
 // What a frame's chunk and header say (RFC 6386 sections 9 and 19.2), and what comes of it.
-#[derive(Clone, Copy)]
+#[derive(Clone, Copy, PartialEq, Eq, Debug)]
 pub struct Header {
     // Whether it is a key frame (9.1).
     pub key_frame: bool,
@@ -177,7 +177,7 @@ pub struct Header {
 }
 
 // What is kept from frame to frame: 1,126 numbers.
-#[derive(Clone, Copy)]
+#[derive(Clone, Copy, PartialEq, Eq, Debug)]
 pub struct Parser {
     // The adjustments by segment (9.3): 15 numbers.
     pub segmentation: Segmentation,
@@ -192,7 +192,7 @@ pub struct Parser {
 }
 
 // Whose reading of a frame: it is given with each call, and not kept.
-#[derive(Clone, Copy)]
+#[derive(Clone, Copy, PartialEq, Eq, Debug)]
 pub enum Mode {
     // The Rust's: segment probabilities only with feature data, and a decoder that reads on past the first partition.
     Rust,
@@ -200,11 +200,9 @@ pub enum Mode {
     Standard,
 }
 
-// How a call went: a header, or one of six refusals with what it carries.
-#[derive(Clone, Copy)]
-pub enum Outcome {
-    // 0: a header was read, and the partitions lie within the frame.
-    Accepted,
+// The six refusals, with what each carries.
+#[derive(Clone, Copy, PartialEq, Eq, Debug)]
+pub enum Refusal {
     // 1: the chunk is cut short.
     ChunkTooShort,
     // 2, with the code found.
@@ -220,7 +218,7 @@ pub enum Outcome {
 }
 
 // What the first ten bytes of a frame tell of it; each field is the header's of the same name (RFC 6386 section 9.1).
-#[derive(Clone, Copy)]
+#[derive(Clone, Copy, PartialEq, Eq, Debug)]
 pub struct Look {
     // Whether it is a key frame (9.1).
     pub key_frame: bool,
@@ -240,33 +238,31 @@ pub struct Look {
     pub vert_scale_code: u8,
 }
 
-// The answer of a look at the first bytes, which refuses by 1 and 2 alone.
-#[derive(Clone, Copy)]
-pub enum Peeked {
-    // What they tell.
-    Seen(Look),
-    // Refusal 1: the chunk is cut short.
+// The refusals of a look at the first bytes: 1 and 2 alone.
+#[derive(Clone, Copy, PartialEq, Eq, Debug)]
+pub enum PeekRefusal {
+    // 1: the chunk is cut short.
     TooShort,
-    // Refusal 2, with the code found.
+    // 2, with the code found.
     StartCode(u32),
 }
 
-// The answer of a call. The header holds arrays, so it stands beside the outcome.
-#[derive(Clone, Copy)]
+// The answer of a call. A refusal has a header too, the blank one, and leaves a parser, so both stand beside the outcome.
+#[derive(Clone, Copy, PartialEq, Eq, Debug)]
 pub struct Parsed {
-    // How it went.
-    pub outcome: Outcome,
+    // How it went: a header was read, and the partitions lie within the frame; or it was refused.
+    pub outcome: Result<(), Refusal>,
     // What the frame says; blank where it was refused.
     pub header: Header,
     // What is kept for the next frame.
     pub parser: Parser,
 }
 
-impl Mode {
+impl From<u32> for Mode {
+    ghost from_gives = { λ number mode. mode ≡ mode_of number };
+
     // By its number: 0 is the Rust's, any other the standard's.
-    pub fn of(number: u32) -> Mode
-        ensures { result ≡ mode_of number }
-    {
+    fn from(number: u32) -> Mode {
         if number == 0 {
             Mode::Rust
         } else {
@@ -275,19 +271,39 @@ impl Mode {
     }
 }
 
-impl Outcome {
-    // The number of a refusal, and 0 for none.
+impl Refusal {
+    // Its number in the table of refusals.
     pub fn number(self) -> u32
-        ensures { result ≡ number_of self }
+        ensures { result ≡ number_of (Err self) }
     {
         match self {
-            Outcome::Accepted => 0,
-            Outcome::ChunkTooShort => 1,
-            Outcome::InvalidStartCode(_) => 2,
-            Outcome::InvalidPartitionSize(_, _) => 3,
-            Outcome::EmptyArea => 4,
-            Outcome::EndOfHeader => 5,
-            Outcome::FrameTooLong(_) => 6,
+            Refusal::ChunkTooShort => 1,
+            Refusal::InvalidStartCode(_) => 2,
+            Refusal::InvalidPartitionSize(_, _) => 3,
+            Refusal::EmptyArea => 4,
+            Refusal::EndOfHeader => 5,
+            Refusal::FrameTooLong(_) => 6,
+        }
+    }
+}
+
+// The number of a refusal, and 0 for none.
+pub fn number(outcome: Result<(), Refusal>) -> u32
+    ensures { result ≡ number_of outcome }
+{
+    match outcome {
+        Ok(()) => 0,
+        Err(refusal) => refusal.number(),
+    }
+}
+
+impl From<PeekRefusal> for Refusal {
+    ghost from_gives = { λ early refusal. refusal ≡ refusal_of early };
+
+    fn from(early: PeekRefusal) -> Refusal {
+        match early {
+            PeekRefusal::TooShort => Refusal::ChunkTooShort,
+            PeekRefusal::StartCode(code) => Refusal::InvalidStartCode(code),
         }
     }
 }
@@ -380,6 +396,7 @@ pub fn coeff_index(i: u8, j: u8, k: u8, l: u8) -> usize
 
 impl CoeffProbs {
     // What a parser starts with: the default table (13.5).
+    #[tactic(auto, unfolding(crate::specs::Start::fresh_coeffs, vp8_probs::specs::Tables::coeff_default))]
     pub fn new() -> Self
         ensures { result ≡ fresh_coeffs }
     {
@@ -389,6 +406,7 @@ impl CoeffProbs {
     }
 
     // All zeros: part of a refusal's header.
+    #[tactic(auto, unfolding(crate::specs::Start::no_coeffs))]
     pub fn blank() -> Self
         ensures { result ≡ no_coeffs }
     {
@@ -401,17 +419,14 @@ fn mv_context_at(flat: &[u8], at: usize) -> MvContext
     requires { at + 19 ≤ length flat.now }
     ensures { result ≡ laid_mv_context (drop at flat.now) }
 {
-    let mut v = [0u8; 19];
-    let mut j = 0;
-    while j < 19 {
-        v[j] = flat[at + j];
-        j += 1;
-    }
+    let mut v = [0; 19];
+    v.copy_from_slice(&flat[at..at + 19]);
     MvContext { v }
 }
 
 impl MvProbs {
     // The nested records out of one flat run, the row's and the column's (17.2).
+    #[tactic(auto, unfolding(crate::specs::Layout::rows))]
     pub fn laid(flat: &[u8; 38]) -> Self
         ensures { result ≡ laid_mv flat.now }
     {
@@ -421,6 +436,7 @@ impl MvProbs {
     }
 
     // What a parser starts with: the default table (17.2).
+    #[tactic(auto, unfolding(crate::specs::Start::fresh_mv, vp8_probs::specs::Tables::mv_default))]
     pub fn new() -> Self
         ensures { result ≡ fresh_mv }
     {
@@ -429,6 +445,7 @@ impl MvProbs {
     }
 
     // All zeros: part of a refusal's header.
+    #[tactic(auto, unfolding(crate::specs::Start::no_mv, crate::specs::Layout::rows))]
     pub fn blank() -> Self
         ensures { result ≡ no_mv }
     {
@@ -439,9 +456,10 @@ impl MvProbs {
 
 impl Parser {
     // A frame of this many bytes or more is refused.
-    pub const TOO_LONG: usize = 268435456;
+    pub const TOO_LONG: usize = 1 << 28;
 
     // A parser that has seen no frame.
+    #[tactic(auto, unfolding(crate::specs::Start::fresh))]
     pub fn new() -> Self
         ensures { result ≡ fresh }
     {
@@ -474,40 +492,20 @@ impl Parser {
     }
 }
 
-// A number of 32 bits in 64: of an element that a call takes, the bound is known.
-fn wide(x: u32) -> usize
-    ensures { (result ≡ x) × (result < 2 ^ 32) }
-{
-    x as usize
-}
-
-// The sum of the first of the sizes.
+// The sum of the first of the sizes, of which there are eight.
 fn sum_of(sizes: &[u32; 8], count: usize) -> usize
-    requires { count ≤ 8 }
-    ensures { (result ≡ total (take count sizes.now)) × (result ≤ count * 2 ^ 32) }
+    ensures { (result ≡ sum (take count sizes.now)) × (result ≤ 8 * 2 ^ 32) }
 {
     let mut sum: usize = 0;
-    let mut i = 0;
-    while i < count {
-        sum += wide(sizes[i]);
-        i += 1;
+    for &size in &sizes[..count.min(8)] {
+        sum += size as usize;
     }
     sum
 }
 
-// The same for any count: there are eight.
-fn sum_of_any(sizes: [u32; 8], count: usize) -> usize
-    ensures { (result ≡ total (take count sizes)) × (result ≤ 8 * 2 ^ 32) }
-{
-    if count < 8 {
-        sum_of(&sizes, count)
-    } else {
-        sum_of(&sizes, 8)
-    }
-}
-
 impl Header {
     // All zeros and false: the header of a refusal.
+    #[tactic(auto, unfolding(crate::specs::Start::blank))]
     pub fn blank() -> Self
         ensures { result ≡ blank }
     {
@@ -571,12 +569,9 @@ impl Header {
     pub fn frame_len(self) -> usize
         ensures { result ≡ length_of self }
     {
-        let sizes = self.partition_size;
         let count = self.num_dct_partitions();
         let before = self.data_chunk_size as usize + self.first_part_size as usize;
-        let ends = before + sum_of_any(sizes, count);
-        let gaps = count - 1;
-        let coded = std::num::wrapping_add_usize(std::num::wrapping_add_usize(gaps, gaps), gaps);
-        std::num::wrapping_add_usize(ends, coded)
+        let ends = before + sum_of(&self.partition_size, count);
+        ends.wrapping_add((count - 1).wrapping_mul(3))
     }
 }
