@@ -9,7 +9,7 @@ ghost use Rattle.rfc6386.specs.Bytes.{le2, le3, le4};
 pub fn byte_at(bytes: &[u8], at: usize) -> u8
     ensures { result ≡ get_or bytes.now at 0 }
 {
-    if at < bytes.len() { bytes[at] } else { 0 }
+    bytes.get(at).copied().unwrap_or(0)
 }
 
 // Two bytes as a number: RFC 6386 section 9.1 has the sizes so.
@@ -17,7 +17,7 @@ pub fn read_le2(bytes: &[u8], at: usize) -> u32
     ensures { result ≡ le2 bytes.now at }
 {
     if at < bytes.len() {
-        (byte_at(bytes, at) as u32) + (byte_at(bytes, at + 1) as u32) * 256
+        u32::from(byte_at(bytes, at)) + u32::from(byte_at(bytes, at + 1)) * 256
     } else {
         0
     }
@@ -28,7 +28,7 @@ pub fn read_le3(bytes: &[u8], at: usize) -> u32
     ensures { result ≡ le3 bytes.now at }
 {
     if at < bytes.len() {
-        read_le2(bytes, at) + (byte_at(bytes, at + 2) as u32) * 65536
+        read_le2(bytes, at) + u32::from(byte_at(bytes, at + 2)) * 65536
     } else {
         0
     }
@@ -39,7 +39,7 @@ pub fn read_le4(bytes: &[u8], at: usize) -> u32
     ensures { result ≡ le4 bytes.now at }
 {
     if at < bytes.len() {
-        read_le3(bytes, at) + (byte_at(bytes, at + 3) as u32) * 16777216
+        read_le3(bytes, at) + u32::from(byte_at(bytes, at + 3)) * 16777216
     } else {
         0
     }

@@ -12,11 +12,10 @@ use lib.Dec.{ltb}
 use lib.ListN.{length, get_or, take, drop, length-append, length-drop, take-append-drop, drop_of_length-le}
 use lib.Seq.{take-nil, take-append-le, drop-append-le, take_at, drop_at, take-add, drop-drop, get_or-take, get_or-drop, length-take-le}
 use Rattle.rfc6386.specs.Bytes.{le4}
-use Rattle.ivf.specs.declared.Step.{Step}
-use Rattle.ivf.specs.declared.Step.TheVariants.{Done, Cut, Frame}
-use Rattle.ivf.specs.declared.Ended.TheVariants.{ListFull}
+use Rattle.std.proofs.Common.{Some, None, Ok, Err}
+use Rattle.ivf.specs.declared.WalkRefusal.TheVariants.{ListFull}
 use Rattle.ivf.specs.Ivf.{headed, Whole, Records, none, next, Recording}
-use Rattle.ivf.specs.Walk.{step_at, Place, walk_from, walked, end_of, end_with, bytes_of}
+use Rattle.ivf.specs.Walk.{Step, step_at, Place, walk_from, walked, end_of, end_with, bytes_of}
 use Rattle.ivf.proofs.Steps.{a_frame, fits, done_left, cut_left, walk_done, walk_cut, walk_full, walk_frame, headed_long}
 
 -- the size is told by the first four bytes
@@ -66,12 +65,12 @@ whole_only {s} {x} {t} {x'} {t'} w w' =
 
 module _ (f : List ℕ) (at : ℕ) where
   -- a step finds a whole record that stands there
-  whole_step : {x t : List ℕ} → at ≤ length f → Whole (drop at f) x t → step_at f at ≡ Frame (length x)
+  whole_step : {x t : List ℕ} → at ≤ length f → Whole (drop at f) x t → step_at f at ≡ Ok (Some (length x))
   whole_step {x} {t} h w =
       let p = parts w in
       let left : length f - at ≡ 12 + length x + length t = sym (length-drop at f) ∙ p.enough in
       let size : le4 f at ≡ length x = sym (from_place f at) ∙ p.size in
-      sym (a_frame f at (λ z. omega (arith, left, z)) (omega (arith, left)) (omega (arith, left, size))) ∙ ap Frame size
+      sym (a_frame f at (λ z. omega (arith, left, z)) (omega (arith, left)) (omega (arith, left, size))) ∙ ap (λ (n : ℕ). Ok (Some n)) size
 
   frame_bytes : {x t : List ℕ} → Whole (drop at f) x t → take (length x) (drop (at + 12) f) ≡ x
   frame_bytes {x} w = ap (take (length x)) (sym (drop-drop 12 at f)) ∙ (parts w).frame
@@ -82,7 +81,7 @@ module _ (f : List ℕ) (at : ℕ) where
       sym (parts w).rest ∙ drop-drop (12 + length x) at f ∙ ap (λ (k : ℕ). drop k f) far
 
   -- and what a step finds is one
-  step_whole : {n : ℕ} → at ≤ length f → step_at f at ≡ Frame n → Whole (drop at f) (take n (drop (at + 12) f)) (drop (at + 12 + n) f)
+  step_whole : {n : ℕ} → at ≤ length f → step_at f at ≡ Ok (Some n) → Whole (drop at f) (take n (drop (at + 12) f)) (drop (at + 12 + n) f)
   step_whole {n} h e =
       let s : List ℕ = drop at f in
       let end = (fits f at h e).0 in
@@ -116,21 +115,21 @@ cut_end (b ∷ bs) h = refl
 at_rest : (k : ℕ) (f : List ℕ) (at : ℕ) → at ≤ length f → ((x t : List ℕ) → Whole (drop at f) x t → ⊥) → (s : Step) → step_at f at ≡ s
     → Lists k f at [] (drop at f)
 unfolding bytes_of
-at_rest k f at h over Done e =
+at_rest k f at h over (Ok None) e =
     let nothing : drop at f ≡ [] = drop_of_length-le f {i = at} (omega (arith, done_left f at e)) in
     record {
       frames = rw (walk_done f at k e, take-nil {A = List ℕ} k);
       sizes = rw (walk_done f at k e, take-nil {A = List ℕ} k);
       ended = rw (walk_done f at k e, nothing, le-ltb k 0 (omega arith));
     }
-at_rest k f at h over Cut e =
+at_rest k f at h over (Err r) e =
     let some : end_of (drop at f) ≡ end_of (0 ∷ []) = cut_end (drop at f) (omega (arith, length-drop at f, cut_left f at e)) in
     record {
       frames = rw (walk_cut f at k e, take-nil {A = List ℕ} k);
       sizes = rw (walk_cut f at k e, take-nil {A = List ℕ} k);
-      ended = rw (walk_cut f at k e, le-ltb k 0 (omega arith), some);
+      ended = rw (walk_cut f at k e, le-ltb k 0 (omega arith), some, (cut_left f at e).1);
     }
-at_rest k f at h over (Frame n) e = absurd (over _ _ (step_whole f at h e))
+at_rest k f at h over (Ok (Some n)) e = absurd (over _ _ (step_whole f at h e))
 
 one_more : (k n : ℕ) → ltb (suc k) (suc n) ≡ ltb k n
 one_more k n = go (dec_le (suc k) n)
@@ -182,7 +181,7 @@ module _ {f rest : List ℕ} {fs : List (List ℕ)} (r : Recording f fs rest) wh
   walked_ended room = rw r.header (lists r.records f 32 refl headed_at r.last room).ended
 
   -- so where it does not end for want of room, there was room for all
-  pub enough : (room : ℕ) → ((walked room f).ended ≡ ListFull → ⊥) → length fs ≤ room
+  pub enough : (room : ℕ) → ((walked room f).ended ≡ Err ListFull → ⊥) → length fs ≤ room
   enough room e = go (dec_le (length fs) room)
     where
       go : Dec (length fs ≤ room) → length fs ≤ room
@@ -205,11 +204,11 @@ part_none f at over = record { frames = []; rest = drop at f; records = none; la
 
 part_step : (f : List ℕ) (at : ℕ) → at ≤ length f → ((n : ℕ) → at + 12 + n ≤ length f → Parted (drop (at + 12 + n) f)) → (s : Step)
     → step_at f at ≡ s → Parted (drop at f)
-part_step f at h more Done e =
+part_step f at h more (Ok None) e =
     part_none f at (λ x t w. let z : ◌≡◌ {A = ℕ} 0 1 = cc (sym e ∙ whole_step f at h w) in omega arith)
-part_step f at h more Cut e =
+part_step f at h more (Err r) e =
     part_none f at (λ x t w. let z : ◌≡◌ {A = ℕ} 0 1 = cc (sym e ∙ whole_step f at h w) in omega arith)
-part_step f at h more (Frame n) e =
+part_step f at h more (Ok (Some n)) e =
     let p = more n (fits f at h e).0 in
     record {
       frames = take n (drop (at + 12) f) ∷ p.frames;

@@ -1,24 +1,24 @@
--- One byte more of a comparison.
-use Prim.Native.Nat.{ℕ, ◌+◌, ◌≤◌, ◌<◌}
-use native.Mathlib.Numerals.{add-one}
-use mathlib.Core.Path.{◌≡◌}
-use mathlib.Core.Bool.{true, false}
-use mathlib.Core.List.{List}
-use borrow.Author.Tests.{eq-eqb, ne_eqb}
-use lib.ListN.{length, get_or, drop, drop_of_length-le}
-use lib.Seq.{drop-cons}
+-- The definition's comparison is the library's: byte by byte.
+use Prim.Native.Nat.{ℕ}
+use mathlib.Core.Path.{◌≡◌, refl, ap, ◌∙◌}
+use mathlib.Core.Bool.{Bool, true, false, ◌&&◌}
+use mathlib.Core.List.{List, [], ◌∷◌}
+use native.Mathlib.Omega.{arith}
+use lib.Dec.{eqb}
+use Rattle.std.specs.List.{starts_with}
+use Rattle.std.proofs.lemmas.Bool.Decides.{nat_tests}
+use Rattle.rfc6386.specs.Decoder.{pick}
 use Rattle.ivf.specs.Ivf.{starts}
 
-module _ (xs ys : List ℕ) (i : ℕ) where
-  pub all : length xs ≤ i → true ≡ starts (drop i xs) (drop i ys)
-  unfolding starts
-  all h = rw (drop_of_length-le xs h)
+picked : (b : Bool) {p q : Bool} → p ≡ q → (b && p) ≡ pick b q false
+picked true e = e
+picked false e = refl
 
-  module _ (h : i < length xs) (g : i < length ys) where
-    pub differs : (get_or ys i 0 ≡ get_or xs i 0 → ⊥) → false ≡ starts (drop i xs) (drop i ys)
-    unfolding starts
-    differs e = rw (drop-cons xs i 0 h, drop-cons ys i 0 g, ne_eqb _ _ e)
+turned : (x y : ℕ) → eqb x y ≡ eqb y x
+turned x y = grind (arith, nat_tests)
 
-    pub agrees : get_or ys i 0 ≡ get_or xs i 0 → starts (drop (i + 1) xs) (drop (i + 1) ys) ≡ starts (drop i xs) (drop i ys)
-    unfolding starts
-    agrees e = rw (add-one i, drop-cons xs i 0 h, drop-cons ys i 0 g, eq-eqb _ _ e)
+pub starts_lem : (xs ys : List ℕ) → starts_with eqb ys xs ≡ starts xs ys
+unfolding starts
+starts_lem [] ys = refl
+starts_lem (x ∷ xs) [] = refl
+starts_lem (x ∷ xs) (y ∷ ys) = picked (eqb x y) (starts_lem xs ys) ∙ ap (λ (b : Bool). pick b (starts xs ys) false) (turned x y)

@@ -8,32 +8,33 @@ use mathlib.Core.List.{List}
 use borrow.Author.Tests.{ltb-false, lt-ltb, le-ltb, eq-eqb, ne_eqb}
 use lib.Dec.{ltb}
 use lib.ListN.{length}
+use Rattle.std.proofs.Common.{Some, None, Ok, Err}
 use Rattle.rfc6386.specs.Bytes.{le4}
-use Rattle.ivf.specs.declared.Step.TheVariants.{Done, Cut, Frame}
-use Rattle.ivf.specs.declared.Ended.TheVariants.{AtEnd, CutShort, ListFull}
+use Rattle.ivf.specs.declared.WalkRefusal.{WalkRefusal}
+use Rattle.ivf.specs.declared.WalkRefusal.TheVariants.{CutShort, ListFull}
 use Rattle.ivf.specs.Ivf.{headed}
 use Rattle.ivf.specs.Walk.{step_at, ends, first, walk_from}
 
 module _ (f : List ℕ) (at : ℕ) where
-  pub at_end : length f - at ≡ 0 → Done ≡ step_at f at
+  pub at_end : length f - at ≡ 0 → Ok None ≡ step_at f at
   unfolding step_at
   at_end e = rw (eq-eqb _ _ e)
 
-  pub no_size : (length f - at ≡ 0 → ⊥) → length f - at < 12 → Cut ≡ step_at f at
+  pub no_size : (length f - at ≡ 0 → ⊥) → length f - at < 12 → Err CutShort ≡ step_at f at
   unfolding step_at
   no_size e h = rw (ne_eqb _ _ e, lt-ltb _ _ h)
 
-  pub no_bytes : (length f - at ≡ 0 → ⊥) → 12 ≤ length f - at → length f - at - 12 < le4 f at → Cut ≡ step_at f at
+  pub no_bytes : (length f - at ≡ 0 → ⊥) → 12 ≤ length f - at → length f - at - 12 < le4 f at → Err CutShort ≡ step_at f at
   unfolding step_at
   no_bytes e h g = rw (ne_eqb _ _ e, le-ltb _ _ h, lt-ltb _ _ g)
 
-  pub a_frame : (length f - at ≡ 0 → ⊥) → 12 ≤ length f - at → le4 f at ≤ length f - at - 12 → Frame (le4 f at) ≡ step_at f at
+  pub a_frame : (length f - at ≡ 0 → ⊥) → 12 ≤ length f - at → le4 f at ≤ length f - at - 12 → Ok (Some (le4 f at)) ≡ step_at f at
   unfolding step_at
   a_frame e h g = rw (ne_eqb _ _ e, le-ltb _ _ h, le-ltb _ _ g)
 
   -- so it is one of three
-  cases : {A : Type 0} → (length f - at ≡ 0 → Done ≡ step_at f at → A) → (1 ≤ length f - at → Cut ≡ step_at f at → A)
-      → (12 + le4 f at ≤ length f - at → Frame (le4 f at) ≡ step_at f at → A) → A
+  cases : {A : Type 0} → (length f - at ≡ 0 → Ok None ≡ step_at f at → A) → (1 ≤ length f - at → Err CutShort ≡ step_at f at → A)
+      → (12 + le4 f at ≤ length f - at → Ok (Some (le4 f at)) ≡ step_at f at → A) → A
   cases {A} done cut frame = some_left (dec_le 1 (length f - at))
     where
       whole : 12 ≤ length f - at → Dec (le4 f at ≤ length f - at - 12) → A
@@ -49,38 +50,38 @@ module _ (f : List ℕ) (at : ℕ) where
       some_left (no d) = done (omega (arith, d)) (at_end (omega (arith, d)))
 
   -- a record that is not cut short ends within the file, and its size is what its first bytes say
-  pub fits : {n : ℕ} → at ≤ length f → step_at f at ≡ Frame n → (at + 12 + n ≤ length f) × (le4 f at ≡ n)
+  pub fits : {n : ℕ} → at ≤ length f → step_at f at ≡ Ok (Some n) → (at + 12 + n ≤ length f) × (le4 f at ≡ n)
   fits {n} h e =
       cases (λ l d. absurd (let z : ◌≡◌ {A = ℕ} 0 1 = cc (d ∙ e) in omega arith))
       (λ l d. absurd (let z : ◌≡◌ {A = ℕ} 0 1 = cc (d ∙ e) in omega arith))
       (λ l d. let s : le4 f at ≡ n = cc (d ∙ e) in (omega (arith, h, l, s), s))
 
   -- nothing is left at the end, and something in a record that is cut short
-  pub done_left : step_at f at ≡ Done → length f - at ≡ 0
+  pub done_left : step_at f at ≡ Ok None → length f - at ≡ 0
   done_left e =
       cases (λ l d. l) (λ l d. absurd (let z : ◌≡◌ {A = ℕ} 0 1 = cc (d ∙ e) in omega arith))
       (λ l d. absurd (let z : ◌≡◌ {A = ℕ} 0 1 = cc (d ∙ e) in omega arith))
 
-  pub cut_left : step_at f at ≡ Cut → 1 ≤ length f - at
-  cut_left e =
-      cases (λ l d. absurd (let z : ◌≡◌ {A = ℕ} 0 1 = cc (d ∙ e) in omega arith)) (λ l d. l)
+  pub cut_left : {r : WalkRefusal} → step_at f at ≡ Err r → (1 ≤ length f - at) × (r ≡ CutShort)
+  cut_left {r} e =
+      cases (λ l d. absurd (let z : ◌≡◌ {A = ℕ} 0 1 = cc (d ∙ e) in omega arith)) (λ l d. let s : r ≡ CutShort = cc (d ∙ e) in (l, s))
       (λ l d. absurd (let z : ◌≡◌ {A = ℕ} 0 1 = cc (d ∙ e) in omega arith))
 
-  pub walk_done : (k : ℕ) → step_at f at ≡ Done → walk_from k f at ≡ ends AtEnd
+  pub walk_done : (k : ℕ) → step_at f at ≡ Ok None → walk_from k f at ≡ ends (Ok tt)
   unfolding walk_from
   walk_done zero e = rw e
   walk_done (suc k) e = rw e
 
-  pub walk_cut : (k : ℕ) → step_at f at ≡ Cut → walk_from k f at ≡ ends CutShort
+  pub walk_cut : {r : WalkRefusal} (k : ℕ) → step_at f at ≡ Err r → walk_from k f at ≡ ends (Err r)
   unfolding walk_from
   walk_cut zero e = rw e
   walk_cut (suc k) e = rw e
 
-  pub walk_full : {n : ℕ} → step_at f at ≡ Frame n → walk_from 0 f at ≡ ends ListFull
+  pub walk_full : {n : ℕ} → step_at f at ≡ Ok (Some n) → walk_from 0 f at ≡ ends (Err ListFull)
   unfolding walk_from
   walk_full e = rw e
 
-  pub walk_frame : {n : ℕ} (k : ℕ) → step_at f at ≡ Frame n → walk_from (suc k) f at ≡ first (at + 12) n (walk_from k f (at + 12 + n))
+  pub walk_frame : {n : ℕ} (k : ℕ) → step_at f at ≡ Ok (Some n) → walk_from (suc k) f at ≡ first (at + 12) n (walk_from k f (at + 12 + n))
   unfolding walk_from
   walk_frame k e = rw e
 

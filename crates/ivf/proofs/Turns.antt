@@ -8,11 +8,10 @@ use mathlib.Core.Bool.{true, false}
 use mathlib.Core.List.{List, ◌++◌, map}
 use lib.ListN.{length, drop, set, length-set, length-map}
 use lib.Seq.{sets, sets-eq}
-use Rattle.ivf.specs.declared.Step.TheVariants.{Frame}
-use Rattle.ivf.specs.declared.Ended.{Ended}
-use Rattle.ivf.specs.declared.Ended.TheVariants.{NoHeader, ListFull}
+use Rattle.std.proofs.Common.{Some, Ok, Err}
+use Rattle.ivf.specs.declared.WalkRefusal.TheVariants.{NoHeader, ListFull}
 use Rattle.ivf.specs.Ivf.{headed}
-use Rattle.ivf.specs.Walk.{step_at, Place, ends, first, walk_from, walked}
+use Rattle.ivf.specs.Walk.{Ended, step_at, Place, ends, first, walk_from, walked}
 use Rattle.ivf.specs.Listed.{over, Lists, Listed}
 use Rattle.ivf.proofs.Steps.{fits, walk_full, walk_frame}
 
@@ -50,12 +49,12 @@ begin f os ls room h e =
     }
 
 -- no header, and nothing is listed
-pub refused : (f os ls : List ℕ) (room : ℕ) → headed f ≡ false → Lists (walked room f) (record { count = 0; ended = NoHeader }) os os ls ls
+pub refused : (f os ls : List ℕ) (room : ℕ) → headed f ≡ false → Lists (walked room f) (record { count = 0; ended = Err NoHeader }) os os ls ls
 unfolding walked
 refused f os ls room e = rw e (record { count = refl; ended = refl; offsets_are = refl; lengths_are = refl })
 
 module _ {f os₀ ls₀ : List ℕ} {room : ℕ} {os ls : List ℕ} {at count : ℕ} (t : Turn f os₀ ls₀ room os ls at count) where
-  pub turn : {n : ℕ} → step_at f at ≡ Frame n → count < room
+  pub turn : {n : ℕ} → step_at f at ≡ Ok (Some n) → count < room
       → Turn f os₀ ls₀ room (set os count (at + 12)) (set ls count n) (at + 12 + n) (count + 1)
   turn {n} e h =
       let one : room - count ≡ suc (room - suc count) = omega arith in
@@ -74,7 +73,7 @@ module _ {f os₀ ls₀ : List ℕ} {room : ℕ} {os ls : List ℕ} {at count : 
         lengths = rw (add-one count) (rw next at t.lengths);
       }
 
-  pub full : {n : ℕ} → step_at f at ≡ Frame n → room ≤ count → walk_from (room - count) f at ≡ ends ListFull
+  pub full : {n : ℕ} → step_at f at ≡ Ok (Some n) → room ≤ count → walk_from (room - count) f at ≡ ends (Err ListFull)
   full e h =
       let none : room - count ≡ 0 = omega arith in
       rw none (walk_full f at e)

@@ -2,27 +2,17 @@
 // No public function has a premise.
 #![tactic(auto)]
 
-ghost use Rattle.std.specs.Prelude.{◌≡◌, ◌≤◌, min, length};
-ghost use Rattle.ivf.specs.Ivf.{starts, magic, headed};
-ghost use Rattle.ivf.specs.Walk.{refusal_of, step_at};
+ghost use Rattle.std.specs.Prelude.{◌≡◌, ◌≤◌, length};
+ghost use Rattle.ivf.specs.Ivf.{headed};
+ghost use Rattle.ivf.specs.Walk.{number_of, refusal_of, step_at};
 ghost use Rattle.ivf.specs.Listed.{Listed};
 
 use bitstream_utils::read_le4;
 
-// What stands at a place between records: the end of the file, a record that is cut short, or one with this many bytes of a frame.
-#[derive(Clone, Copy)]
-pub enum Step {
-    Done,
-    Cut,
-    Frame(u32),
-}
-
-// How a walk ends: at the end of the file, or by a refusal.
-#[derive(Clone, Copy)]
-pub enum Ended {
-    // The file ends after a record, or after the header.
-    AtEnd,
-    // 10: it does not begin with the header of a recording of VP8.
+// Why a walk ends before the file does.
+#[derive(Clone, Copy, PartialEq, Eq, Debug)]
+pub enum WalkRefusal {
+    // 10: the file does not begin with the header of a recording of VP8.
     NoHeader,
     // 11: it ends within a record.
     CutShort,
@@ -30,74 +20,90 @@ pub enum Ended {
     ListFull,
 }
 
-impl Ended {
-    // The number of the refusal; 0 for none.
+impl WalkRefusal {
+    // Its number.
     pub fn number(self) -> u8
-        ensures { result ≡ refusal_of self }
+        ensures { result ≡ number_of self }
     {
         match self {
-            Ended::AtEnd => 0,
-            Ended::NoHeader => 10,
-            Ended::CutShort => 11,
-            Ended::ListFull => 12,
+            WalkRefusal::NoHeader => 10,
+            WalkRefusal::CutShort => 11,
+            WalkRefusal::ListFull => 12,
         }
+    }
+}
+
+// The number of the refusal; 0 where a walk ends at the end of the file.
+pub fn refusal_number(ended: Result<(), WalkRefusal>) -> u8
+    ensures { result ≡ refusal_of ended }
+{
+    match ended {
+        Ok(()) => 0,
+        Err(refusal) => refusal.number(),
     }
 }
 
 // What a walk answers.
-#[derive(Clone, Copy)]
+#[derive(Clone, Copy, PartialEq, Eq, Debug)]
 pub struct Walked {
     // How many frames are listed.
     pub count: usize,
-    // Why no more are.
-    pub ended: Ended,
-}
-
-fn starts_with(file: &[u8], start: &[u8; 12]) -> bool
-    requires { (12 ≤ length file.now) × (start.now ≡ magic) }
-    ensures { result ≡ starts start.now file.now }
-{
-    let mut i = 0;
-    while i < 12 {
-        if file[i] != start[i] {
-            return false;
-        }
-        i += 1;
-    }
-    true
+    // Why no more are: the file ends after a record or after the header, or a refusal.
+    pub ended: Result<(), WalkRefusal>,
 }
 
 fn is_headed(file: &[u8]) -> bool
     ensures { result ≡ headed file.now }
 {
-    if file.len() < 32 {
-        return false;
-    }
-    starts_with(file, b"DKIF\0\0\x20\0VP80")
+    file.len() >= 32 && file.starts_with(b"DKIF\0\0\x20\0VP80")
 }
 
-fn step_at(file: &[u8], at: usize) -> Step
+// What stands at a place between records: so many bytes of a frame, or the end of the file.
+fn step_at(file: &[u8], at: usize) -> Result<Option<u32>, WalkRefusal>
     requires { at ≤ length file.now }
     ensures { result ≡ step_at file.now at }
 {
     let left = file.len() - at;
     if left == 0 {
-        return Step::Done;
+        return Ok(None);
     }
     if left < 12 {
-        return Step::Cut;
+        return Err(WalkRefusal::CutShort);
     }
     let size = read_le4(file, at);
     if left - 12 < size as usize {
-        return Step::Cut;
+        return Err(WalkRefusal::CutShort);
     }
-    Step::Frame(size)
+    Ok(Some(size))
 }
 
-fn smaller(a: usize, b: usize) -> usize
-    ensures { result ≡ min a b }
+// Lists the frames of a file as `walk` does, and counts them.
+fn list(
+    file: &[u8],
+    offsets: &mut [u64],
+    lengths: &mut [u32],
+    count: &mut usize,
+) -> Result<(), WalkRefusal>
+    requires { count.old ≡ 0 }
+    ensures { Listed file.now (record { count = count.new; ended = result })
+        offsets.old offsets.new lengths.old lengths.new }
 {
-    if a < b { a } else { b }
+    if !is_headed(file) {
+        return Err(WalkRefusal::NoHeader);
+    }
+    let room = offsets.len().min(lengths.len());
+    let mut at = 32;
+    while let Some(size) = step_at(file, at)? {
+        if room <= *count {
+            return Err(WalkRefusal::ListFull);
+        }
+        let from = at + 12;
+        offsets[*count] = from as u64;
+        lengths[*count] = size;
+        at = from + size as usize;
+        *count += 1;
+    }
+    Ok(())
 }
 
 // Lists the frames of a file, in its order, as far as both lists go. The offset of a frame is that of its bytes; the timestamps and the
@@ -106,42 +112,7 @@ pub fn walk(file: &[u8], offsets: &mut [u64], lengths: &mut [u32]) -> Walked
     ensures { Listed file.now result
         offsets.old offsets.new lengths.old lengths.new }
 {
-    if !is_headed(file) {
-        return Walked {
-            count: 0,
-            ended: Ended::NoHeader,
-        };
-    }
-    let room = smaller(offsets.len(), lengths.len());
-    let mut at: usize = 32;
-    let mut count: usize = 0;
-    loop {
-        match step_at(file, at) {
-            Step::Done => {
-                return Walked {
-                    count,
-                    ended: Ended::AtEnd,
-                };
-            }
-            Step::Cut => {
-                return Walked {
-                    count,
-                    ended: Ended::CutShort,
-                };
-            }
-            Step::Frame(size) => {
-                if room <= count {
-                    return Walked {
-                        count,
-                        ended: Ended::ListFull,
-                    };
-                }
-                let from = at + 12;
-                offsets[count] = from as u64;
-                lengths[count] = size;
-                at = from + size as usize;
-                count += 1;
-            }
-        }
-    }
+    let mut count = 0;
+    let ended = list(file, offsets, lengths, &mut count);
+    Walked { count, ended }
 }

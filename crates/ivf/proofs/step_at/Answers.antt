@@ -1,6 +1,6 @@
 -- Each answer by the tests that led to it.
 use mathlib.Core.Path.{ap, ◌∙◌}
-use Rattle.ivf.specs.declared.Step.TheVariants.{Frame}
+use Rattle.std.proofs.Common.{Some, Ok}
 use Rattle.ivf.proofs.Steps.{at_end, no_size, no_bytes, a_frame}
 use Rattle.ivf.proofs.step_at.Goals as goal
 
@@ -16,4 +16,4 @@ returns-then-left-size c = let size = c.read_le4-size.ensures in
 
 pub returns : goal.returns
 returns c = let size = c.read_le4-size.ensures in
-    ap Frame size ∙ a_frame _ _ c.if-left-eq0.false c.if-left-lt12.false (rw size at c.if-left-size.false)
+    ap (λ n. Ok (Some n)) size ∙ a_frame _ _ c.if-left-eq0.false c.if-left-lt12.false (rw size at c.if-left-size.false)

@@ -1,7 +1,7 @@
 use Prim.Native.Nat.{◌-◌}
 use lib.ListN.{length}
 use Rattle.ivf.proofs.Turns.{Turn}
-use Rattle.ivf.proofs.walk.Given as goal
+use Rattle.ivf.proofs.list.Given as goal
 
 abbrev pub invariant-loop-size : goal.invariant-loop-size
 invariant-loop-size l = Turn l.file l.initial.offsets l.initial.lengths l.room l.offsets l.lengths l.at l.count
