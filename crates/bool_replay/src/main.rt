@@ -3,224 +3,185 @@
 // wrong.
 #![tactic(auto)]
 
+ghost use Rattle.std.specs.Prelude.{IfOk};
 ghost use Rattle.lines.specs.Read.{IsPrefixLen};
 
 use bool_script::engines::Engine;
-use bool_script::input::Came;
-use lines::Number;
+use bool_script::input;
+use lines::CutShort;
+use std::fmt;
 use std::io::Read;
-use std::num::wrapping_add_u64;
 
-// What has been replayed, and whether there may be more.
-#[derive(Clone, Copy)]
+// The first bytes of records: the list's end, and a script.
+const END: u8 = 0;
+
+const SCRIPT: u8 = 2;
+
+// What is wrong with a list.
+#[derive(Clone, Copy, PartialEq, Eq, Debug)]
+enum Fault {
+    // It does not begin as one.
+    Head,
+    // A script is wrong, or the list ends before its end.
+    Script(input::Fault),
+    // A record that is none of the two.
+    Unknown,
+    // It tells another number of scripts.
+    Count,
+    // It goes on after its end.
+    More,
+}
+
+impl fmt::Display for Fault {
+    fn fmt<W: fmt::Write>(&self, f: &mut fmt::Formatter<W>) -> fmt::Result {
+        match self {
+            Fault::Head => write!(f, "not a list of scripts"),
+            Fault::Script(fault) => write!(f, "{fault}"),
+            Fault::Unknown => write!(f, "unknown record"),
+            Fault::Count => write!(f, "the list has another number of scripts"),
+            Fault::More => write!(f, "more after the end"),
+        }
+    }
+}
+
+impl From<input::Fault> for Fault {
+    fn from(fault: input::Fault) -> Fault {
+        Fault::Script(fault)
+    }
+}
+
+impl From<CutShort> for Fault {
+    fn from(cut: CutShort) -> Fault {
+        Fault::Script(cut.into())
+    }
+}
+
+// What has been replayed.
+#[derive(Clone, Copy, Default)]
 struct Tally {
     scripts: u64,
     operations: u64,
     apart: u64,
-    more: bool,
 }
 
-// A line from the list, and whether it came whole.
-#[derive(Clone, Copy)]
-struct Stored {
-    whole: bool,
-    count: usize,
-}
-
-fn ended(tally: Tally) -> Tally {
-    Tally {
-        scripts: tally.scripts,
-        operations: tally.operations,
-        apart: tally.apart,
-        more: false,
+impl fmt::Display for Tally {
+    fn fmt<W: fmt::Write>(&self, f: &mut fmt::Formatter<W>) -> fmt::Result {
+        let Tally {
+            scripts,
+            operations,
+            apart,
+        } = *self;
+        write!(
+            f,
+            "{scripts} scripts, {operations} operations, by both engines, {apart} apart"
+        )
     }
 }
 
-fn wrong(rt: &impl Print, tally: Tally, word: &[u8]) -> Tally {
-    lines::say(rt, word);
-    ended(tally)
-}
+impl Tally {
+    // Only the first twenty are told. Scripts are counted from 1.
+    fn set_apart(&mut self, rt: &impl Print, engine: &str) {
+        if self.apart < 20 {
+            let script = self.scripts;
+            let _ = println!(rt; "apart: script {script}, {engine}");
+        }
+        self.apart = self.apart.wrapping_add(1);
+    }
 
-// A number between two words.
-fn tell(rt: &impl Print, words: &[u8], n: u64, after: &[u8]) {
-    let mut out = [0u8; 64];
-    let at = text::bytes(&mut out, 0, words);
-    let to = text::decimal(&mut out, at, n);
-    let end = text::bytes(&mut out, to, after);
-    lines::show(rt, &out, end);
-}
+    // The line of a script on both engines, held against the stored one.
+    fn compare(
+        &mut self,
+        rt: &impl Print,
+        area: &[u8],
+        reads: &[u8],
+        stored: &[u8],
+        out: &mut [u8],
+    ) {
+        self.scripts = self.scripts.wrapping_add(1);
+        self.operations = self.operations.wrapping_add((reads.len() / 2) as u64);
+        if !is_line(area, reads, stored, Engine::Window, out) {
+            self.set_apart(rt, "the window");
+        }
+        if !is_line(area, reads, stored, Engine::Slow, out) {
+            self.set_apart(rt, "the slow engine");
+        }
+    }
 
-// Only the first twenty are told. Scripts are counted from 1.
-fn told(rt: &impl Print, apart: u64, script: u64, engine: &[u8]) {
-    if apart < 20 {
-        tell(rt, b"apart: script ", script, engine);
+    // A script and its line. The number of the worked case that it is stands before it, for readers; 0 for none.
+    fn script(
+        &mut self,
+        rt: &impl Print,
+        input: &mut impl Read,
+        out: &mut [u8],
+    ) -> Result<(), Fault> {
+        let mut area = [0u8; 4096];
+        let mut reads = [0u8; 2048];
+        let mut stored = [0u8; 32768];
+        lines::take_byte(input).ok_or(CutShort)?;
+        let script = input::take(input, &mut area, &mut reads)?.ok_or(CutShort)?;
+        let n = take_stored(input, &mut stored)?;
+        self.compare(
+            rt,
+            &area[..script.area],
+            &reads[..script.reads],
+            &stored[..n],
+            out,
+        );
+        Ok(())
+    }
+
+    // The number of scripts, and nothing after it.
+    fn end(&self, input: &mut impl Read) -> Result<(), Fault> {
+        let count = lines::take_le4(input)?.ok_or(CutShort)?;
+        if self.scripts != u64::from(count) {
+            return Err(Fault::Count);
+        }
+        if lines::take_byte(input).is_some() {
+            return Err(Fault::More);
+        }
+        Ok(())
     }
 }
 
-// How many lines are apart, with the line of one engine.
-fn count(rt: &impl Print, apart: u64, script: u64, same: bool, engine: &[u8]) -> u64 {
-    if same {
-        return apart;
-    }
-    told(rt, apart, script, engine);
-    wrapping_add_u64(apart, 1)
-}
-
-fn same_line(area: &[u8], reads: &[u8], stored: &[u8], engine: Engine, out: &mut [u8]) -> bool {
+fn is_line(area: &[u8], reads: &[u8], stored: &[u8], engine: Engine, out: &mut [u8]) -> bool {
     let n = bool_script::line(area, reads, engine, out);
-    check::same(text::part(out, n), stored)
+    text::part(out, n) == stored
 }
 
-fn compare(
-    rt: &impl Print,
-    tally: Tally,
-    area: &[u8],
-    reads: &[u8],
-    stored: &[u8],
-    out: &mut [u8],
-) -> Tally {
-    let scripts = wrapping_add_u64(tally.scripts, 1);
-    let operations = wrapping_add_u64(tally.operations, (reads.len() / 2) as u64);
-    let window = same_line(area, reads, stored, Engine::Window, out);
-    let slow = same_line(area, reads, stored, Engine::Slow, out);
-    let apart = count(rt, tally.apart, scripts, window, b", the window\n");
-    let apart = count(rt, apart, scripts, slow, b", the slow engine\n");
-    Tally {
-        scripts,
-        operations,
-        apart,
-        more: true,
-    }
-}
-
-fn take_stored(input: &mut impl Read, stored: &mut [u8]) -> Stored
-    ensures { IsPrefixLen result.count stored.new }
+// A line from the list; its length.
+fn take_stored(input: &mut impl Read, stored: &mut [u8]) -> Result<usize, CutShort>
+    ensures { IfOk result (λ n. IsPrefixLen n stored.new) }
 {
-    match lines::take_le2(input) {
-        Number::Is(n) => {
-            let wanted = n as usize;
-            let got = lines::take(input, stored, wanted);
-            Stored {
-                whole: got == wanted,
-                count: got,
-            }
-        }
-        Number::End => Stored {
-            whole: false,
-            count: 0,
-        },
-        Number::Short => Stored {
-            whole: false,
-            count: 0,
-        },
-    }
+    let n = usize::from(lines::take_le2(input)?.ok_or(CutShort)?);
+    lines::take_exact(input, stored, n)?;
+    Ok(n)
 }
 
-// In a list a script has to be there.
-fn whole(rt: &impl Print, came: Came) -> bool {
-    match came {
-        Came::End => bool_script::input::whole(rt, Came::CutShort),
-        Came::Whole => true,
-        Came::TooLarge => bool_script::input::whole(rt, Came::TooLarge),
-        Came::CutShort => bool_script::input::whole(rt, Came::CutShort),
-        Came::BadKind => bool_script::input::whole(rt, Came::BadKind),
-    }
-}
-
-fn script(rt: &impl Print, input: &mut impl Read, tally: Tally, out: &mut [u8]) -> Tally {
-    let mut area = [0u8; 4096];
-    let mut reads = [0u8; 2048];
-    let taken = bool_script::input::take(input, &mut area, &mut reads);
-    let came = taken.came;
-    let size = taken.area;
-    let count = taken.reads;
-    if !whole(rt, came) {
-        return ended(tally);
-    }
-    let mut stored = [0u8; 32768];
-    let line = take_stored(input, &mut stored);
-    let n = line.count;
-    if !line.whole {
-        return wrong(rt, tally, b"cut short");
-    }
-    compare(rt, tally, &area[..size], &reads[..count], &stored[..n], out)
-}
-
-// The number of the worked case that the script is stands before it, for readers; 0 for none.
-fn numbered(rt: &impl Print, input: &mut impl Read, tally: Tally, out: &mut [u8]) -> Tally {
-    match lines::take_byte(input) {
-        Number::Is(_) => script(rt, input, tally, out),
-        Number::End => wrong(rt, tally, b"cut short"),
-        Number::Short => wrong(rt, tally, b"cut short"),
-    }
-}
-
-fn summary(rt: &impl Print, tally: Tally) -> Tally {
-    tell(rt, b"", tally.scripts, b" scripts, ");
-    tell(rt, b"", tally.operations, b" operations, by both engines, ");
-    tell(rt, b"", tally.apart, b" apart\n");
-    ended(tally)
-}
-
-// The number of scripts, and nothing after it.
-fn finish(rt: &impl Print, input: &mut impl Read, tally: Tally, count: u32) -> Tally {
-    if tally.scripts != count as u64 {
-        return wrong(rt, tally, b"the list has another number of scripts");
-    }
-    match lines::take_byte(input) {
-        Number::Is(_) => wrong(rt, tally, b"more after the end"),
-        Number::End => summary(rt, tally),
-        Number::Short => wrong(rt, tally, b"cut short"),
-    }
-}
-
-fn last(rt: &impl Print, input: &mut impl Read, tally: Tally) -> Tally {
-    match lines::take_le4(input) {
-        Number::Is(count) => finish(rt, input, tally, count),
-        Number::End => wrong(rt, tally, b"cut short"),
-        Number::Short => wrong(rt, tally, b"cut short"),
-    }
-}
-
-fn record(rt: &impl Print, input: &mut impl Read, tally: Tally, out: &mut [u8]) -> Tally {
-    match lines::take_byte(input) {
-        Number::Is(kind) => {
-            if kind == 2 {
-                return numbered(rt, input, tally, out);
-            }
-            if kind == 0 {
-                return last(rt, input, tally);
-            }
-            wrong(rt, tally, b"unknown record")
-        }
-        Number::End => wrong(rt, tally, b"cut short"),
-        Number::Short => wrong(rt, tally, b"cut short"),
-    }
-}
-
-// Nothing says that the list ends, so the loop counts down from a number that no run uses up.
-fn records(rt: &impl Print, input: &mut impl Read, out: &mut [u8]) {
-    let mut tally = Tally {
-        scripts: 0,
-        operations: 0,
-        apart: 0,
-        more: true,
-    };
-    let mut left = u64::MAX;
-    while left > 0 && tally.more {
-        tally = record(rt, input, tally, out);
-        left -= 1;
-    }
-}
-
-fn main(rt: HostRuntime) {
-    let mut input = rt.reader();
+// The whole list. Nothing says that it ends, so the loop has a number of turns that no run uses up.
+fn replay(rt: &impl Print, input: &mut impl Read) -> Result<Tally, Fault> {
     let mut head = [0u8; 8];
-    let got = lines::take(&mut input, &mut head, 8);
-    if !check::same(&head[..got], b"SBBOOLS1") {
-        lines::say(&rt, b"not a list of scripts");
-        return;
+    if lines::take_exact(input, &mut head, 8).is_err() || head != *b"SBBOOLS1" {
+        return Err(Fault::Head);
     }
+    let mut tally = Tally::default();
     let mut out = [0u8; 32768];
-    records(&rt, &mut input, &mut out);
+    for _ in 0..u64::MAX {
+        match lines::take_byte(input).ok_or(CutShort)? {
+            SCRIPT => tally.script(rt, input, &mut out)?,
+            END => {
+                tally.end(input)?;
+                break;
+            }
+            _ => return Err(Fault::Unknown),
+        }
+    }
+    Ok(tally)
+}
+
+// What cannot be written is left out.
+fn main(rt: HostRuntime) {
+    let _ = match replay(&rt, &mut rt.reader()) {
+        Ok(tally) => rt.println(tally),
+        Err(fault) => rt.println(fault),
+    };
 }

@@ -1,157 +1,93 @@
 // A script from standard input: a 4-byte little-endian area length (at most 4,096), the area, a 2-byte number of reads (at most 1,024),
 // and 2 bytes a read.
-ghost use Rattle.std.specs.Prelude.{◌≡◌};
+ghost use Rattle.std.specs.Prelude.{◌≡◌, IfOk, IfSome, take, true};
 ghost use Rattle.lines.specs.Read.{IsPrefixLen};
-ghost use Rattle.bool_script.specs.Input.{is_whole};
+ghost use Rattle.bool_script.specs.Script.{known};
 
 use crate::kinds_known;
-use lines::Number;
+use lines::CutShort;
+use std::fmt;
 use std::io::Read;
 
-// How the input goes on: by a whole script, by its end, or by a fault.
-#[derive(Clone, Copy)]
-pub enum Came {
-    // A whole script.
-    Whole,
-    // Nothing more.
-    End,
+// The bytes of a script in the lent buffers.
+#[derive(Clone, Copy, PartialEq, Eq, Debug)]
+pub struct Script {
+    // How many of the area there are.
+    pub area: usize,
+    // How many of reads there are, two a read.
+    pub reads: usize,
+}
+
+// What is wrong with a script.
+#[derive(Clone, Copy, PartialEq, Eq, Debug)]
+pub enum Fault {
     // A number of bytes or of reads above the limit.
     TooLarge,
-    // A script that ends before its end.
+    // The input ends within it.
     CutShort,
     // A read of a kind that is not known.
     BadKind,
 }
 
-// A script as far as it came.
-#[derive(Clone, Copy)]
-pub struct Script {
-    // How it came.
-    pub came: Came,
-    // How many bytes of the area there are.
-    pub area: usize,
-    // How many bytes of reads there are, two a read.
-    pub reads: usize,
-}
-
-// The reads of a script as far as they came, and their bytes.
-#[derive(Clone, Copy)]
-struct Reads {
-    came: Came,
-    count: usize,
-}
-
-fn take_reads(input: &mut impl Read, reads: &mut [u8], count: u32) -> Reads
-    ensures { IsPrefixLen result.count reads.new }
-{
-    if 1024 < count {
-        return Reads {
-            came: Came::TooLarge,
-            count: 0,
-        };
-    }
-    let wanted = (count * 2) as usize;
-    let got = lines::take(input, reads, wanted);
-    if got < wanted {
-        return Reads {
-            came: Came::CutShort,
-            count: got,
-        };
-    }
-    if kinds_known(&reads[..got]) {
-        Reads {
-            came: Came::Whole,
-            count: got,
-        }
-    } else {
-        Reads {
-            came: Came::BadKind,
-            count: got,
-        }
+impl fmt::Display for Fault {
+    fn fmt<W: fmt::Write>(&self, f: &mut fmt::Formatter<W>) -> fmt::Result {
+        f.write_str(match self {
+            Fault::TooLarge => "too large",
+            Fault::CutShort => "cut short",
+            Fault::BadKind => "bad kind",
+        })
     }
 }
 
-fn take_count(input: &mut impl Read, reads: &mut [u8]) -> Reads
-    ensures { IsPrefixLen result.count reads.new }
-{
-    match lines::take_le2(input) {
-        Number::Is(count) => take_reads(input, reads, count),
-        Number::End => Reads {
-            came: Came::CutShort,
-            count: 0,
-        },
-        Number::Short => Reads {
-            came: Came::CutShort,
-            count: 0,
-        },
+impl From<CutShort> for Fault {
+    fn from(_: CutShort) -> Fault {
+        Fault::CutShort
     }
 }
 
-fn take_rest(input: &mut impl Read, area: &mut [u8], reads: &mut [u8], size: u32) -> Script
-    ensures { IsPrefixLen result.area area.new × IsPrefixLen result.reads reads.new }
+// The area of a given size; how many bytes it has.
+fn take_area(input: &mut impl Read, area: &mut [u8], size: u32) -> Result<usize, Fault>
+    ensures { IfOk result (λ count. IsPrefixLen count area.new) }
 {
     if 4096 < size {
-        return Script {
-            came: Came::TooLarge,
-            area: 0,
-            reads: 0,
-        };
+        return Err(Fault::TooLarge);
     }
     let wanted = size as usize;
-    let got = lines::take(input, area, wanted);
-    if got < wanted {
-        return Script {
-            came: Came::CutShort,
-            area: got,
-            reads: 0,
-        };
-    }
-    let rest = take_count(input, reads);
-    let came = rest.came;
-    Script {
-        came,
-        area: got,
-        reads: rest.count,
-    }
+    lines::take_exact(input, area, wanted)?;
+    Ok(wanted)
 }
 
-// The next script, to the start of `area` and of `reads`.
-pub fn take(input: &mut impl Read, area: &mut [u8], reads: &mut [u8]) -> Script
-    ensures { IsPrefixLen result.area area.new × IsPrefixLen result.reads reads.new }
+// The number of reads and the reads; how many bytes these have.
+fn take_reads(input: &mut impl Read, reads: &mut [u8]) -> Result<usize, Fault>
+    ensures counts { IfOk result (λ count. IsPrefixLen count reads.new) }
+    ensures kinds { IfOk result (λ count. known (take count reads.new) ≡ true) }
 {
-    match lines::take_le4(input) {
-        Number::Is(size) => take_rest(input, area, reads, size),
-        Number::End => Script {
-            came: Came::End,
-            area: 0,
-            reads: 0,
-        },
-        Number::Short => Script {
-            came: Came::CutShort,
-            area: 0,
-            reads: 0,
-        },
+    let count = lines::take_le2(input)?.ok_or(Fault::CutShort)?;
+    if 1024 < count {
+        return Err(Fault::TooLarge);
     }
+    let wanted = usize::from(count) * 2;
+    lines::take_exact(input, reads, wanted)?;
+    if !kinds_known(&reads[..wanted]) {
+        return Err(Fault::BadKind);
+    }
+    Ok(wanted)
 }
 
-// Whether a whole script came; a fault gets a line that says what is wrong.
-pub fn whole(rt: &impl Print, came: Came) -> bool
-    ensures { result ≡ is_whole came }
+// The next script, to the start of `area` and of `reads`; none where the input ends.
+pub fn take(
+    input: &mut impl Read,
+    area: &mut [u8],
+    reads: &mut [u8],
+) -> Result<Option<Script>, Fault>
+    ensures area { IfOk result (λ next. IfSome next (λ script. IsPrefixLen script.area area.new)) }
+    ensures reads { IfOk result (λ next. IfSome next (λ script. IsPrefixLen script.reads reads.new)) }
+    ensures kinds { IfOk result (λ next. IfSome next (λ script. known (take script.reads reads.new) ≡ true)) }
 {
-    match came {
-        Came::Whole => true,
-        Came::End => false,
-        Came::TooLarge => {
-            lines::say(rt, b"too large");
-            false
-        }
-        Came::CutShort => {
-            lines::say(rt, b"cut short");
-            false
-        }
-        Came::BadKind => {
-            lines::say(rt, b"bad kind");
-            false
-        }
-    }
+    let Some(size) = lines::take_le4(input)? else {
+        return Ok(None);
+    };
+    let area = take_area(input, area, size)?;
+    let reads = take_reads(input, reads)?;
+    Ok(Some(Script { area, reads }))
 }

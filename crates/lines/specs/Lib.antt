@@ -1,2 +1,2 @@
--- What the contracts cite: numbers that were read.
+-- What the contracts cite: counts of bytes that were read.
 pub mod Read

@@ -2,19 +2,21 @@
 // No public function has a premise.
 #![tactic(auto)]
 
-ghost use Rattle.std.specs.Prelude.{◌≡◌, ◌<◌, ◌≤◌, ◌+◌, ◌*◌, get_or};
-ghost use Rattle.lines.specs.Read.{Below, IsPrefixLen};
+ghost use Rattle.std.specs.Prelude.{◌≤◌, OnOk};
+ghost use Rattle.lines.specs.Read.{IsPrefixLen};
 
+use std::io;
 use std::io::Read;
 
-// The text to standard output; false where not all could be written.
-pub fn show(rt: &impl Print, out: &[u8], n: usize) -> bool {
-    rt.write_all(text::part(out, n)).is_ok()
+// The text to standard output.
+pub fn show(rt: &impl Print, out: &[u8], n: usize) -> io::Result<()> {
+    rt.write_all(text::part(out, n))
 }
 
 // A line of its own.
-pub fn say(rt: &impl Print, word: &[u8]) -> bool {
-    rt.write_all(word).is_ok() && rt.write_all(b"\n").is_ok()
+pub fn say(rt: &impl Print, word: &[u8]) -> io::Result<()> {
+    rt.write_all(word)?;
+    rt.write_all(b"\n")
 }
 
 // Reads until buf is full, the input ends or a read fails; how many bytes came, to the start of buf.
@@ -38,80 +40,49 @@ fn read_full(input: &mut impl Read, buf: &mut [u8]) -> usize
 pub fn take(input: &mut impl Read, buf: &mut [u8], n: usize) -> usize
     ensures { (result ≤ n) × IsPrefixLen result buf.new }
 {
-    if n < buf.len() {
-        read_full(input, &mut buf[..n])
-    } else {
-        read_full(input, buf)
+    let wanted = n.min(buf.len());
+    read_full(input, &mut buf[..wanted])
+}
+
+// The input ends before the last of the bytes that are wanted.
+#[derive(Clone, Copy, PartialEq, Eq, Debug)]
+pub struct CutShort;
+
+// The next n bytes, to the start of buf; also cut short where buf is.
+pub fn take_exact(input: &mut impl Read, buf: &mut [u8], n: usize) -> Result<(), CutShort>
+    ensures { OnOk result (IsPrefixLen n buf.new) }
+{
+    if take(input, buf, n) < n {
+        return Err(CutShort);
+    }
+    Ok(())
+}
+
+// The next byte; none where the input ends.
+pub fn take_byte(input: &mut impl Read) -> Option<u8> {
+    let mut byte = [0u8; 1];
+    if read_full(input, &mut byte) == 0 {
+        return None;
+    }
+    Some(byte[0])
+}
+
+// The next N bytes, or none where the input ends at once.
+fn take_array<const N: usize>(input: &mut impl Read) -> Result<Option<[u8; N]>, CutShort> {
+    let mut bytes = [0u8; N];
+    match read_full(input, &mut bytes) {
+        0 => Ok(None),
+        n if n < N => Err(CutShort),
+        _ => Ok(Some(bytes)),
     }
 }
 
-// A number, its bytes least significant first, or how the input ends before it: at once, or in its midst.
-#[derive(Clone, Copy)]
-pub enum Number {
-    Is(u32),
-    End,
-    Short,
+// The next two bytes as a number, the least significant first; none where the input ends at once.
+pub fn take_le2(input: &mut impl Read) -> Result<Option<u16>, CutShort> {
+    Ok(take_array(input)?.map(u16::from_le_bytes))
 }
 
-fn wide(b: u8) -> u32
-    ensures { (result ≡ b) × (result < 256) }
-{
-    b as u32
-}
-
-fn le2(b: &[u8; 2]) -> u32
-    ensures value { result ≡ get_or b.now 0 0 + get_or b.now 1 0 * 256 }
-    ensures upper_bound { result < 65536 }
-{
-    wide(b[0]) + wide(b[1]) * 256
-}
-
-fn le4(b: &[u8; 4]) -> u32
-    ensures value { result ≡ get_or b.now 0 0 + get_or b.now 1 0 * 256
-        + get_or b.now 2 0 * 65536 + get_or b.now 3 0 * 16777216 }
-    ensures upper_bound { result < 4294967296 }
-{
-    wide(b[0]) + wide(b[1]) * 256 + wide(b[2]) * 65536 + wide(b[3]) * 16777216
-}
-
-// The next byte.
-pub fn take_byte(input: &mut impl Read) -> Number
-    ensures { Below 256 result }
-{
-    let mut b = [0u8; 1];
-    let n = read_full(input, &mut b);
-    if n == 0 {
-        return Number::End;
-    }
-    Number::Is(wide(b[0]))
-}
-
-// The next two bytes.
-pub fn take_le2(input: &mut impl Read) -> Number
-    ensures { Below 65536 result }
-{
-    let mut b = [0u8; 2];
-    let n = read_full(input, &mut b);
-    if n == 0 {
-        return Number::End;
-    }
-    if n < 2 {
-        return Number::Short;
-    }
-    Number::Is(le2(&b))
-}
-
-// The next four bytes.
-pub fn take_le4(input: &mut impl Read) -> Number
-    ensures { Below 4294967296 result }
-{
-    let mut b = [0u8; 4];
-    let n = read_full(input, &mut b);
-    if n == 0 {
-        return Number::End;
-    }
-    if n < 4 {
-        return Number::Short;
-    }
-    Number::Is(le4(&b))
+// The same of four bytes.
+pub fn take_le4(input: &mut impl Read) -> Result<Option<u32>, CutShort> {
+    Ok(take_array(input)?.map(u32::from_le_bytes))
 }
