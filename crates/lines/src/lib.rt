@@ -6,10 +6,11 @@ ghost use Rattle.std.specs.Prelude.{◌≡◌, ◌<◌, ◌≤◌, ◌+◌, ◌*
 ghost use Rattle.lines.specs.Read.{Below, IsPrefixLen};
 
 use std::io::Read;
+use text::Text;
 
 // The text to standard output; false where not all could be written.
-pub fn show(rt: &impl Print, out: &[u8], n: usize) -> bool {
-    rt.write_all(text::part(out, n)).is_ok()
+pub fn show<const N: usize>(rt: &impl Print, text: &Text<N>) -> bool {
+    rt.write_all(text.as_bytes()).is_ok()
 }
 
 // A line of its own.
