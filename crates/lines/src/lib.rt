@@ -7,10 +7,11 @@ ghost use Rattle.lines.specs.Read.{IsPrefixLen};
 
 use std::io;
 use std::io::Read;
+use text::Text;
 
 // The text to standard output.
-pub fn show(rt: &impl Print, out: &[u8], n: usize) -> io::Result<()> {
-    rt.write_all(text::part(out, n))
+pub fn show<const N: usize>(rt: &impl Print, text: &Text<N>) -> io::Result<()> {
+    rt.write_all(text.as_bytes())
 }
 
 // A line of its own.

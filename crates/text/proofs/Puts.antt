@@ -36,21 +36,28 @@ unfolding puts
 puts_nil t = refl
 
 -- a turn of the loop
-pub puts_turn : (t : Text) (xs : List ℕ) (i : ℕ) → i < length xs
-    → put (puts t (take i xs)) (get_or xs i 0) ≡ puts t (take (i + 1) xs)
+pub puts_turn : (t u v : Text) (xs : List ℕ) (i : ℕ) → i < length xs → u ≡ puts t (take i xs) → v ≡ put u (get_or xs i 0)
+    → v ≡ puts t (take (i + 1) xs)
 unfolding puts
-puts_turn t xs i h = rw (add-one i, take-suc xs i 0 h, puts_append t (take i xs) (get_or xs i 0 ∷ []))
+puts_turn t u v xs i h e d = d ∙ rw (e, add-one i, take-suc xs i 0 h, puts_append t (take i xs) (get_or xs i 0 ∷ []))
 
 pub hex_append : (xs ys : List ℕ) → hex_of (xs ++ ys) ≡ hex_of xs ++ hex_of ys
 unfolding hex_of
 hex_append [] ys = refl
 hex_append (x ∷ xs) ys = ap (λ (l : List ℕ). glyph (x / 16) ∷ (glyph (x % 16) ∷ l)) (hex_append xs ys)
 
-pub hex_turn : (t : Text) (xs : List ℕ) (i : ℕ) → i < length xs
-    → put (put (puts t (hex_of (take i xs))) (glyph (get_or xs i 0 / 16))) (glyph (get_or xs i 0 % 16)) ≡ puts t (hex_of (take (i + 1) xs))
+pub hex_nil : (t : Text) → puts t (hex_of []) ≡ t
+unfolding hex_of puts
+hex_nil t = refl
+
+pub hex_turn : (t u v w : Text) (xs : List ℕ) (i : ℕ) → i < length xs → u ≡ puts t (hex_of (take i xs))
+    → v ≡ put u (glyph (get_or xs i 0 / 16)) → w ≡ put v (glyph (get_or xs i 0 % 16)) → w ≡ puts t (hex_of (take (i + 1) xs))
 unfolding puts hex_of
-hex_turn t xs i h =
-    rw (
+hex_turn t u v w xs i h e d f =
+    f
+    ∙ rw (
+      d,
+      e,
       add-one i,
       take-suc xs i 0 h,
       hex_append (take i xs) (get_or xs i 0 ∷ []),
@@ -92,8 +99,8 @@ stands (x ∷ xs) buffer n h =
     (stands xs buffer n h) (dec_le (suc n) (length buffer))
 
 -- one byte is a piece
-pub one : (t : Text) (out : List ℕ) (to b : ℕ) → text out to ≡ put t b → text out to ≡ puts t (b ∷ [])
-one t out to b e = e ∙ sym (puts_cons t b [] ∙ puts_nil (put t b))
+pub one : (t u : Text) (b : ℕ) → u ≡ put t b → u ≡ puts t (b ∷ [])
+one t u b e = e ∙ sym (puts_cons t b [] ∙ puts_nil (put t b))
 
 -- a piece, then another
 pub then : (t u v : Text) (xs ys : List ℕ) → u ≡ puts t xs → v ≡ puts u ys → v ≡ puts t (xs ++ ys)

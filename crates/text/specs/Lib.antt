@@ -1,4 +1,4 @@
--- What the contracts cite: a text that grows in a lent buffer, numbers as text, and lines.
+-- What the contracts cite: a text that grows in its buffer, numbers as text, and lines.
 pub mod Text
 pub mod Digits
 pub mod Template

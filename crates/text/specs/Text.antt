@@ -1,4 +1,4 @@
--- A text in a lent buffer, and what is written to it. The whole buffer is told, so what stands past the text is told too.
+-- A text in a buffer, and what is written to it. The whole buffer is told, so what stands past the text is told too.
 use Rattle.std.specs.Prelude.{ℕ, ◌+◌, cond, List, [], ◌∷◌, ltb, length, set}
 
 -- the first `count` bytes of the buffer are the text

@@ -1,181 +1,151 @@
-// Text in a buffer that the caller lends: bytes, two hexadecimal digits a byte, decimal numbers, templates. No input, no output.
-// A text is the first `at` bytes of `out`. Each writer puts its bytes there, as far as the buffer goes, and answers the new count.
-// No public function has a premise.
+// Text in a buffer of fixed size: bytes, two hexadecimal digits a byte, decimal numbers, templates. No input, no output.
+// Each writer puts its bytes after those that are there, as far as the buffer goes. No public function has a premise.
 #![tactic(auto)]
 
-ghost use Rattle.std.specs.Prelude.{◌≡◌, cond, List, [], ◌∷◌, ◌++◌, ℕ, ◌<◌, ◌+◌, take as List·take, drop, nat_abs};
+ghost use Rattle.std.specs.Prelude.{◌≡◌, ◌<◌, take, replicate};
 ghost use Rattle.text.specs.Text.{text, put, puts};
 ghost use Rattle.text.specs.Digits.{glyph as Digits·glyph, hex_of, decimal_of, signed_of};
 ghost use Rattle.text.specs.Template.{filled};
 ghost use Rattle.text.specs.Lines.{numbered};
 
-// One byte.
-pub fn byte(out: &mut [u8], at: usize, b: u8) -> usize
-    ensures { text out.new result ≡ put (text out.old at) b }
-{
-    if at < out.len() {
-        out[at] = b;
-        at + 1
-    } else {
-        at
-    }
+use std::marker::Model;
+
+// A text of at most N bytes: the first `count` bytes of the buffer.
+#[derive(Drop)]
+pub struct Text<const N: usize> {
+    buffer: [u8; N],
+    count: usize,
 }
 
-// All bytes of `src`.
-pub fn bytes(out: &mut [u8], at: usize, src: &[u8]) -> usize
-    ensures { text out.new result ≡ puts (text out.old at) src.now }
-{
-    let mut to = at;
-    let mut i = 0;
-    while i < src.len() {
-        to = byte(out, to, src[i]);
-        i += 1;
-    }
-    to
+impl<const N: usize> Model for Text<N> {
+    ghost use Rattle.std.specs.Prelude.{◌≤◌};
+    ghost use Rattle.text.specs.Text.{Text, text};
+
+    ghost Value = { Text };
+
+    ghost view = { λ t. text t.buffer t.count };
+
+    ghost invariant = { λ t. t.count ≤ N };
 }
 
 fn glyph(d: u8) -> u8
     requires { d < 16 }
     ensures { result ≡ Digits·glyph d }
 {
-    if d < 10 { 48 + d } else { 87 + d }
+    if d < 10 { b'0' + d } else { b'a' + (d - 10) }
 }
 
-// Two digits a byte, in lower case.
-pub fn hex(out: &mut [u8], at: usize, src: &[u8]) -> usize
-    ensures { text out.new result ≡ puts (text out.old at) (hex_of src.now) }
-{
-    let mut to = at;
-    let mut i = 0;
-    while i < src.len() {
-        to = byte(out, to, glyph(src[i] / 16));
-        to = byte(out, to, glyph(src[i] % 16));
-        i += 1;
-    }
-    to
-}
-
-fn digit(d: u64) -> u8
-    requires { d < 10 }
-    ensures { result ≡ 48 + d }
-{
-    48 + d as u8
-}
-
-// The decimal digits of n, as few as hold it: those before the last, and the last. It calls itself at most 19 deep.
-#[tactic(auto, using(crate::proofs::Spelling::puts_one, crate::proofs::Spelling::puts_more))]
-pub fn decimal(out: &mut [u8], at: usize, n: u64) -> usize
-    ensures { text out.new result ≡ puts (text out.old at) (decimal_of n) }
-{
-    if n < 10 {
-        return byte(out, at, digit(n));
-    }
-    let to = decimal(out, at, n / 10);
-    byte(out, to, digit(n % 10))
-}
-
-fn wide(n: u32) -> u64
-    ensures { result ≡ n }
-{
-    n as u64
-}
-
-// The text's new end, and which number comes next.
-#[derive(Clone, Copy)]
-struct Filling {
-    at: usize,
-    next: usize,
-}
-
-// What one byte of a template puts: a bar the next number, if there is one; any other byte itself.
-fn fill_byte(out: &mut [u8], at: usize, b: u8, numbers: &[u32], next: usize) -> Filling
-    ensures { (cs : List ℕ) → puts (text out.new result.at) (filled cs (drop result.next numbers.now))
-        ≡ puts (text out.old at) (filled (b ∷ cs) (drop next numbers.now)) }
-{
-    if b == b'|' {
-        if next < numbers.len() {
-            let to = decimal(out, at, wide(numbers[next]));
-            return Filling {
-                at: to,
-                next: next + 1,
-            };
+impl<const N: usize> Text<N> {
+    // Nothing yet.
+    pub fn new() -> Self
+        ensures { result ≡ text (replicate N 0) 0 }
+    {
+        Text {
+            buffer: [0; N],
+            count: 0,
         }
-        return Filling { at, next };
     }
-    let to = byte(out, at, b);
-    Filling { at: to, next }
-}
 
-// A template: its words, and the numbers in decimal where its bars stand.
-pub fn fill(out: &mut [u8], at: usize, template: &[u8], numbers: &[u32]) -> usize
-    ensures { text out.new result
-        ≡ puts (text out.old at) (filled template.now numbers.now) }
-{
-    let mut to = at;
-    let mut next = 0;
-    let mut i = 0;
-    while i < template.len() {
-        let filling = fill_byte(out, to, template[i], numbers, next);
-        to = filling.at;
-        next = filling.next;
-        i += 1;
+    // The text itself.
+    pub fn as_bytes(&self) -> &[u8]
+        ensures { result.now ≡ take self.now.count self.now.buffer }
+    {
+        &self.buffer[..self.count]
     }
-    to
-}
 
-// The number and a space, where a line begins.
-fn line_head(out: &mut [u8], at: usize, n: u64, begins: bool) -> usize
-    ensures { text out.new result ≡ puts (text out.old at) (cond begins (decimal_of n ++ (32 ∷ [])) []) }
-{
-    if begins {
-        let to = decimal(out, at, n);
-        return byte(out, to, b' ');
+    // Begins again, over the old text.
+    pub fn clear(&mut self)
+        ensures { self.new ≡ text self.old.buffer 0 }
+    {
+        self.count = 0;
     }
-    at
-}
 
-// Lines, each with the number and a space in front.
-pub fn number_lines(out: &mut [u8], at: usize, n: u64, lines: &[u8]) -> usize
-    ensures { text out.new result ≡ puts (text out.old at) (numbered n lines.now) }
-{
-    let mut to = at;
-    let mut begins = true;
-    let mut i = 0;
-    while i < lines.len() {
-        let head = line_head(out, to, n, begins);
-        to = byte(out, head, lines[i]);
-        begins = lines[i] == b'\n';
-        i += 1;
+    // The whole buffer, of which the text is the start.
+    pub fn into_buffer(self) -> [u8; N]
+        ensures { result ≡ self.entry.buffer }
+    {
+        self.buffer
     }
-    to
-}
 
-fn size(z: i32) -> u64
-    ensures { result ≡ nat_abs z }
-{
-    let wide = z as i64;
-    if wide < 0 {
-        (0 - wide) as u64
-    } else {
-        wide as u64
+    // One byte.
+    pub fn byte(&mut self, b: u8)
+        ensures { self.new ≡ put self.old b }
+    {
+        if self.count < N {
+            self.buffer[self.count] = b;
+            self.count += 1;
+        }
     }
-}
 
-// In decimal, with a minus sign below 0.
-pub fn signed(out: &mut [u8], at: usize, z: i32) -> usize
-    ensures { text out.new result ≡ puts (text out.old at) (signed_of z) }
-{
-    let n = size(z);
-    if z < 0 {
-        let after = byte(out, at, b'-');
-        return decimal(out, after, n);
+    // All bytes of `src`.
+    #[tactic(auto, using(crate::proofs::Puts::puts_nil, crate::proofs::Puts::puts_turn))]
+    pub fn bytes(&mut self, src: &[u8])
+        ensures { self.new ≡ puts self.old src.now }
+    {
+        for &b in src {
+            self.byte(b);
+        }
     }
-    decimal(out, at, n)
-}
 
-// The text itself, where it stands; all of `out` where n is more.
-pub fn part(out: &[u8], n: usize) -> &[u8]
-    ensures { (result.now ≡ List·take n out.now) × (result.ref_ptr ≡ out.entry.ref_ptr) }
-{
-    if n < out.len() { &out[..n] } else { out }
+    // Two digits a byte, in lower case.
+    #[tactic(auto, using(crate::proofs::Puts::hex_nil, crate::proofs::Puts::hex_turn))]
+    pub fn hex(&mut self, src: &[u8])
+        ensures { self.new ≡ puts self.old (hex_of src.now) }
+    {
+        for &b in src {
+            self.byte(glyph(b / 16));
+            self.byte(glyph(b % 16));
+        }
+    }
+
+    // The decimal digits of n, as few as hold it: those before the last, and the last. It calls itself at most 19 deep.
+    #[tactic(auto, using(crate::proofs::Spelling::puts_one, crate::proofs::Spelling::puts_more))]
+    pub fn decimal(&mut self, n: u64)
+        ensures { self.new ≡ puts self.old (decimal_of n) }
+    {
+        if n >= 10 {
+            self.decimal(n / 10);
+        }
+        self.byte(b'0' + (n % 10) as u8);
+    }
+
+    // In decimal, with a minus sign below 0.
+    pub fn signed(&mut self, z: i32)
+        ensures { self.new ≡ puts self.old (signed_of z) }
+    {
+        if z < 0 {
+            self.byte(b'-');
+        }
+        self.decimal(u64::from(z.unsigned_abs()));
+    }
+
+    // A template: its words, and the numbers in decimal where its bars stand.
+    pub fn fill(&mut self, template: &[u8], numbers: &[u32])
+        ensures { self.new ≡ puts self.old (filled template.now numbers.now) }
+    {
+        let mut left = numbers;
+        for &b in template {
+            if b != b'|' {
+                self.byte(b);
+            } else if let [n, rest @ ..] = left {
+                self.decimal(u64::from(*n));
+                left = rest;
+            }
+        }
+    }
+
+    // Lines, each with the number and a space in front.
+    pub fn number_lines(&mut self, n: u64, lines: &[u8])
+        ensures { self.new ≡ puts self.old (numbered n lines.now) }
+    {
+        let mut begins = true;
+        for &b in lines {
+            if begins {
+                self.decimal(n);
+                self.byte(b' ');
+            }
+            self.byte(b);
+            begins = b == b'\n';
+        }
+    }
 }

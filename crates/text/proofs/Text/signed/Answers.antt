@@ -11,7 +11,8 @@ use borrow.Author.Tests.{ltb-true}
 use Rattle.text.specs.Text.{Text, put, puts}
 use Rattle.text.specs.Digits.{decimal_of, signed_of}
 use Rattle.text.proofs.Puts.{puts_cons}
-use Rattle.text.proofs.signed.Goals as goal
+use Rattle.text.proofs.Text.signed.Goals.{then-z-lt0, else-z-lt0}
+use Rattle.text.proofs.Text.signed.Goals as goal
 
 negative : (z : ℤ) (n : ℕ) (t u v : Text) → lt_z z (pos 0) ≡ true → n ≡ nat_abs z → u ≡ put t 45 → v ≡ puts u (decimal_of n)
     → v ≡ puts t (signed_of z)
@@ -19,17 +20,16 @@ unfolding signed_of
 negative (pos k) n t u v h m e d = absurd (omega (arith, ltb-true k 0 h))
 negative (negsuc k) n t u v h m e d = rw (m, e) at d ∙ sym (puts_cons t 45 _)
 
-other : (z : ℤ) (n : ℕ) (t v : Text) → lt_z z (pos 0) ≡ false → n ≡ nat_abs z → v ≡ puts t (decimal_of n) → v ≡ puts t (signed_of z)
+other : (z : ℤ) (n : ℕ) (t u v : Text) → lt_z z (pos 0) ≡ false → n ≡ nat_abs z → u ≡ t → v ≡ puts u (decimal_of n) → v ≡ puts t (signed_of z)
 unfolding signed_of
-other (pos k) n t v h m d = rw m at d
-other (negsuc k) n t v h m d = let e : ◌≡◌ {A = ℕ} 0 1 = cc in absurd (omega arith)
-
-pub returns-then-z-lt0 : goal.returns-then-z-lt0
-returns-then-z-lt0 c = let e = to_z-of_z {w = w32} c.ranges.z in
-    negative c.args.z _ _ _ _ (rw e at c.if-z-lt0.true) (c.size-n.ensures ∙ ap nat_abs e) c.byte-after.ensures
-    c.decimal.ensures
+other (pos k) n t u v h m e d = rw (m, e) at d
+other (negsuc k) n t u v h m e d = cc
 
 pub returns : goal.returns
-returns c = let e = to_z-of_z {w = w32} c.ranges.z in
-    other c.args.z _ _ _ (rw e at c.if-z-lt0.false) (c.size-n.ensures ∙ ap nat_abs e)
-    c.decimal-2.ensures
+returns g c =
+    let read = to_z-of_z {w = w32} c.ranges.z in
+    let size = c.from.ensures ∙ c.unsigned_abs.ensures.value ∙ ap nat_abs read in
+    elim c.if-z-lt0.branch [
+      | then-z-lt0 w ↦ negative c.args.z _ _ _ _ (rw read at w.if-z-lt0.true) size (w.self-is ∙ w.byte.ensures) c.decimal.ensures
+      | else-z-lt0 w ↦ other c.args.z _ _ _ _ (rw read at w.if-z-lt0.false) size w.self-is c.decimal.ensures
+    ]

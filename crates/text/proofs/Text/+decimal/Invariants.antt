@@ -1,5 +1,5 @@
 -- The measure is the number, since a tenth is less.
-use Rattle.text.proofs.+decimal.Given as goal
+use Rattle.text.proofs.Text.+decimal.Given as goal
 
 abbrev pub decreases-decimal : goal.decreases-decimal
-decreases-decimal l = l.n
+decreases-decimal g l = l.n

@@ -1,0 +1,7 @@
+use mathlib.Core.Path.{◌≡◌}
+use lib.ListN.{take}
+use Rattle.text.specs.Text.{puts}
+use Rattle.text.proofs.Text.bytes.Given as goal
+
+abbrev pub invariant-loop-b : goal.invariant-loop-b
+invariant-loop-b g l = l.self ≡ puts l.initial.self (take l.b-index l.src)
