@@ -77,6 +77,13 @@ module _ (m b e x v w : ℕ) (H : Holds m b e x v w) where
   window_is pos =
       ap (λ (i : ℕ). (i - x * 2 ^ e) / b) H.exact ∙ ap (λ (i : ℕ). i / b) (add-sub_cancel (w * b) (x * 2 ^ e)) ∙ mul-div_cancel w pos
 
+-- e zeros at the end of w, as a multiple of 2 ^ e and the other way round
+pub ends : (w e : ℕ) → w % 2 ^ e ≡ 0 → w ≡ w / 2 ^ e * 2 ^ e
+ends w e z = omega (arith, div-add-mod' w (2 ^ e), z)
+
+pub ended : (w e h : ℕ) → w ≡ h * 2 ^ e → w % 2 ^ e ≡ 0
+ended w e h is = ap (λ (i : ℕ). i % 2 ^ e) is ∙ mul-mod_left h (2 ^ e)
+
 module _ (m b e x v w : ℕ) (H : Holds m b e x v w) (bx : x < b) where
   -- the window compares with a split as V does
   pub one_is : (s : ℕ) → s * 2 ^ m ≤ w → s * b ≤ v
@@ -89,7 +96,7 @@ module _ (m b e x v w : ℕ) (H : Holds m b e x v w) (bx : x < b) where
       lt_of_mul-lt-mul_right (2 ^ m)
       (omega (
         arith,
-        mul-le-mul_right b (apart w H.zeros.0 e s m H.zeros.1 le h),
+        mul-le-mul_right b (apart w (w / 2 ^ e) e s m (ends w e H.zeros) le h),
         mul_right_comm s (2 ^ m) b,
         H.exact,
         add-mul w (2 ^ e) b,
@@ -120,7 +127,8 @@ module _ (m b e x v w : ℕ) (H : Holds m b e x v w) (bx : x < b) where
           mul_right_comm s (2 ^ m) b,
         );
     zeros =
-        (H.zeros.0 - s * 2 ^ (m - e), rw (H.zeros.1, multiple s m e le) (diff (2 ^ e) H.zeros.0 (s * 2 ^ (m - e))));
+        ended (w - s * 2 ^ m) e (w / 2 ^ e - s * 2 ^ (m - e))
+        (rw (multiple s m e le) (ap (λ (i : ℕ). i - s * 2 ^ (m - e) * 2 ^ e) (ends w e H.zeros) ∙ diff (2 ^ e) (w / 2 ^ e) (s * 2 ^ (m - e))));
     small = omega (arith, H.small);
   }
 
@@ -131,11 +139,11 @@ module _ (m b e x v w : ℕ) (H : Holds m b e x v w) (bx : x < b) where
       let w' = w * 2 ^ k % 2 ^ (m + 8) in
       let p = v * 2 ^ k / (256 * b) in
       let q = w * 2 ^ k / 2 ^ (m + 8) in
-      let h = H.zeros.0 in
+      let h = w / 2 ^ e in
       let n = 2 ^ (m + 8) * b in
       let j = m + 8 - (e + k) in
       let up : w * 2 ^ k ≡ h * 2 ^ (e + k) =
-      ap (λ (i : ℕ). i * 2 ^ k) H.zeros.1 ∙ mul_assoc h (2 ^ e) (2 ^ k) ∙ ap (λ (i : ℕ). h * i) (sym (pow-add 2 e k)) in
+      ap (λ (i : ℕ). i * 2 ^ k) (ends w e H.zeros) ∙ mul_assoc h (2 ^ e) (2 ^ k) ∙ ap (λ (i : ℕ). h * i) (sym (pow-add 2 e k)) in
       let lows : w' ≡ h % 2 ^ j * 2 ^ (e + k) =
       ap (λ (i : ℕ). i % 2 ^ (m + 8)) up ∙ low_zeros h j (e + k) (m + 8) (sub-add_cancel le) in
       let fit1 : v' * 2 ^ m < n =
@@ -147,7 +155,7 @@ module _ (m b e x v w : ℕ) (H : Holds m b e x v w) (bx : x < b) where
             ∙ ap (λ (i : ℕ). i % n)
             (shift_exact m b x v w e k p v' q w' H.exact (div-add-mod' (v * 2 ^ k) (256 * b)) (div-add-mod' (w * 2 ^ k) (2 ^ (m + 8))))
             ∙ digits_mod q fit2;
-        zeros = (h % 2 ^ j, lows);
+        zeros = ended w' (e + k) (h % 2 ^ j) lows;
         small = mod-lt (w * 2 ^ k) (pow_pos (m + 8));
       }
 
@@ -155,7 +163,7 @@ module _ (m b e x v w : ℕ) (H : Holds m b e x v w) (bx : x < b) where
 pub take_byte : (m b e x v w : ℕ) → Holds m b (e + 8) x v w → e ≤ m → (y x' : ℕ) → y < 256 → x * 256 ≡ y * b + x'
     → Holds m b e x' v (w + y * 2 ^ e)
 take_byte m b e x v w H le y x' hy step =
-    let h = H.zeros.0 in
+    let h = w / 2 ^ (e + 8) in
     record {
       exact =
           omega (
@@ -169,21 +177,19 @@ take_byte m b e x v w H le y x' hy step =
             ap (λ (i : ℕ). i * 2 ^ e) step,
             add-mul (y * b) x' (2 ^ e),
           );
-      zeros = (
-        h * 256 + y,
-        omega (
-          arith,
-          H.zeros.1,
-          ap (λ (i : ℕ). h * i) (pow-add 2 e 8),
-          mul_assoc h (2 ^ e) 256,
-          add-mul (h * 256) y (2 ^ e),
-          mul_right_comm h 256 (2 ^ e),
-        ),
-      );
+      zeros = ended (w + y * 2 ^ e) e (h * 256 + y)
+          (omega (
+            arith,
+            ends w (e + 8) H.zeros,
+            ap (λ (i : ℕ). h * i) (pow-add 2 e 8),
+            mul_assoc h (2 ^ e) 256,
+            add-mul (h * 256) y (2 ^ e),
+            mul_right_comm h 256 (2 ^ e),
+          ));
       small =
           omega (
             arith,
-            apart w h (e + 8) 1 (m + 8) H.zeros.1 (omega arith) (omega (arith, H.small)),
+            apart w h (e + 8) 1 (m + 8) (ends w (e + 8) H.zeros) (omega arith) (omega (arith, H.small)),
             mul-lt-mul_of_pos_right hy (pow_pos e),
             pow-add 2 e 8,
           );

@@ -9,9 +9,7 @@ use Rattle.rfc6386.specs.Decoder.{State, Out, bits, read_bool}
 use Rattle.rfc6386.specs.Reads.{Rd, ret, ask, ◌>>=◌, run, bool, when, make, maybe}
 use Rattle.rfc6386.specs.Runs.{or}
 use Rattle.rfc6386.proofs.Trees.{assoc, onward}
-use Rattle.bool_decoder.specs.Model.{out, Ran}
-use Rattle.bool_decoder.specs.Window.{state_of}
-use Rattle.bool_decoder.specs.declared.BoolDecoder.{BoolDecoder}
+use Rattle.bool_decoder.specs.Engine.{Engine, out, Ran}
 
 -- a tree followed by what is made of its value, and then more
 pub make_then : {A B C : Type 0} (m : Rd A) (h : A → B) (k : B → Rd C) → make h m >>= k ≡ m >>= (λ a. k (h a))
@@ -53,35 +51,35 @@ unfolding run make ◌>>=◌
 run_make (ret a) h l s = refl
 run_make (ask p k) h l s = run_make (k (read_bool l p s).got) h l (read_bool l p s).then
 
-module _ {A : Type 0} {area : List ℕ} {d d' : BoolDecoder} where
+module _ {E : Engine} {A : Type 0} {area : List ℕ} {d d' : E.Dec} where
   -- of two trees that are equal
-  pub same : {m n : Rd A} {a : A} {k : ℕ} → m ≡ n → Ran m area d a d' k → Ran n area d a d' k
+  pub same : {m n : Rd A} {a : A} {k : ℕ} → m ≡ n → Ran E m area d a d' k → Ran E n area d a d' k
   same e p = rw e at p
 
   -- the value of a run, by an equal one
-  pub worth : {m : Rd A} {a b : A} {k : ℕ} → a ≡ b → Ran m area d a d' k → Ran m area d b d' k
+  pub worth : {m : Rd A} {a b : A} {k : ℕ} → a ≡ b → Ran E m area d a d' k → Ran E m area d b d' k
   worth e p = rw e at p
 
-module _ {A B : Type 0} {area : List ℕ} {d d' : BoolDecoder} where
-  pub makes : {m : Rd A} {a : A} {k : ℕ} (h : A → B) → Ran m area d a d' k → Ran (make h m) area d (h a) d' k
+module _ {E : Engine} {A B : Type 0} {area : List ℕ} {d d' : E.Dec} where
+  pub makes : {m : Rd A} {a : A} {k : ℕ} (h : A → B) → Ran E m area d a d' k → Ran E (make h m) area d (h a) d' k
   makes {m} h p = record {
-    is = run_make m h (bits area) (state_of area d) ∙ ap (λ (o : Out A). out (h o.got) o.then) p.is;
+    is = run_make m h (bits area) (E.state_of area d) ∙ ap (λ (o : Out A). out (h o.got) o.then) p.is;
     over = p.over;
     most = p.most;
   }
 
 -- the definition's value, and what is made of it
-pub record Made {A B : Type 0} (m : Rd A) (h : A → B) (area : List ℕ) (d : BoolDecoder) (b : B) (d' : BoolDecoder) (k : ℕ) : Type 0 where
+pub record Made (E : Engine) {A B : Type 0} (m : Rd A) (h : A → B) (area : List ℕ) (d : E.Dec) (b : B) (d' : E.Dec) (k : ℕ) : Type 0 where
   pub value : A
-  pub ran : Ran m area d value d' k
+  pub ran : Ran E m area d value d' k
   pub is : b ≡ h value
 
-pub made : {A B : Type 0} {m : Rd A} {h : A → B} {area : List ℕ} {d d' : BoolDecoder} {b : B} {k : ℕ}
-    → Ran (make h m) area d b d' k → Made m h area d b d' k
-made {A} {B} {m} {h} {area} {d} {d'} {b} {k} p =
-    let o : Out A = run m (bits area) (state_of area d) in
-    let e : out (h o.got) o.then ≡ out b (state_of area d') = sym (run_make m h (bits area) (state_of area d)) ∙ p.is in
-    let end : o.then ≡ state_of area d' = ap (λ (x : Out B). x.then) e in
+pub made : {E : Engine} {A B : Type 0} {m : Rd A} {h : A → B} {area : List ℕ} {d d' : E.Dec} {b : B} {k : ℕ}
+    → Ran E (make h m) area d b d' k → Made E m h area d b d' k
+made {E} {A} {B} {m} {h} {area} {d} {d'} {b} {k} p =
+    let o : Out A = run m (bits area) (E.state_of area d) in
+    let e : out (h o.got) o.then ≡ out b (E.state_of area d') = sym (run_make m h (bits area) (E.state_of area d)) ∙ p.is in
+    let end : o.then ≡ E.state_of area d' = ap (λ (x : Out B). x.then) e in
     record {
       value = o.got;
       ran = record { is = λ i. record { got = o.got; then = end i }; over = p.over; most = p.most };

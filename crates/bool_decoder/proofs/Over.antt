@@ -1,10 +1,10 @@
--- A decoder over an area, from the window's laws to the contract of one bool. A read first takes the split off, or makes it the range
+-- A window over an area, from the window's laws to the contract of one bool. A read first takes the split off, or makes it the range
 -- (Chosen); then the doublings are one shift, which fill does, or none.
 use mathlib.Core.Path.{◌≡◌, refl, sym, ap, ◌∙◌}
 use mathlib.Core.List.{List}
 use mathlib.Core.Bool.{Bool, true, false}
 use Prim.Native.Nat.{ℕ, ◌+◌, ◌-◌, ◌*◌, ◌/◌, ◌%◌, ◌^◌, ◌≤◌, ◌<◌}
-use native.Mathlib.Nat.{mul_comm, mul-one, mul-le-mul_right}
+use native.Mathlib.Nat.{mul_comm, mod-one, mul-le-mul_right}
 use native.Mathlib.Omega.{arith}
 use borrow.Author.Tests.{ltb-true, ltb-false}
 use lib.ListN.{get_or}
@@ -12,9 +12,9 @@ use lib.Dec.{ltb, lit<, lit≤}
 use lib.Pow.{pow-add, shl_exact}
 use Rattle.rfc6386.specs.Decoder.{number, bits, start, normal, split, read_bool, pick}
 use Rattle.rfc6386.specs.Reads.{run, bool}
-use Rattle.bool_decoder.specs.Window.{rest, Holds, Held, v_of, state_of, limit_of, Over}
-use Rattle.bool_decoder.specs.Model.{out, Good, Ran, Fresh}
-use Rattle.bool_decoder.specs.declared.BoolDecoder.{BoolDecoder}
+use Rattle.bool_decoder.specs.Window.{rest, Holds, Held, v_of, state_of, limit_of, Over, window, Good, Ran}
+use Rattle.bool_decoder.specs.Engine.{out, Fresh}
+use Rattle.bool_decoder.specs.declared.Window.{Window}
 use Rattle.bool_decoder.proofs.Laws.{made_is, v_below, whole_is, less, shift, take_byte}
 use Rattle.bool_decoder.proofs.Normal.{normal_is, normal_high}
 use Rattle.bool_decoder.proofs.Picks.{counted, picks_one, picks_zero}
@@ -44,15 +44,15 @@ held_is area c v w H = rw (value_is area c v w H) H
 pub top : (l : ℕ) → 256 * 2 ^ l ≡ 2 ^ (l + 8)
 top l = mul_comm 256 (2 ^ l) ∙ sym (pow-add 2 l 8)
 
--- the fresh decoder: its window is the first eight bytes
+-- the fresh one: the window is the first eight bytes
 pub fresh : (area : List ℕ) (w at : ℕ) → at ≡ 8 → w < 256 ^ at → w * 2 ^ bits area + rest area at ≡ number area * 256 ^ at
-    → ((i : ℕ) → get_or area i 0 < 256)
-    → Fresh area (record { range = 255; limit = limit_of w; value = w; doublings = 0; bools = 0 })
+    → ((i : ℕ) → get_or area i 0 < 256) → {limit : ℕ} → limit ≡ limit_of w
+    → Fresh window area (record { range = 255; limit = limit; value = w; doublings = 0; bools = 0 })
 unfolding start
-fresh area w at is8 small whole bytes =
+fresh area w at is8 small whole bytes is =
     let v : ℕ = number area * 256 in
     let e : w * 2 ^ bits area + rest area 8 ≡ number area * 256 ^ 8 = rw is8 at whole in
-    let H : Held area 0 v w = record { exact = omega (arith, e); zeros = (w, sym (mul-one w)); small = rw is8 at small } in
+    let H : Held area 0 v w = record { exact = omega (arith, e); zeros = mod-one w; small = rw is8 at small } in
     record {
       over =
           record {
@@ -60,7 +60,7 @@ fresh area w at is8 small whole bytes =
             holds = held_is area 0 v w H;
             low = lit≤ tt;
             high = lit< tt;
-            limit = refl;
+            limit = is;
             few = lit≤ tt;
             count = lit≤ tt;
           };
@@ -106,12 +106,12 @@ module _ (area : List ℕ) (bytes : (i : ℕ) → get_or area i 0 < 256) (c v w 
         (get_or area t 0) (rest area (t + 1)) (bytes t) (rest_step area t))
 
 -- before the doublings: the bool b is read, the range is r, and w holds v
-pub record Chosen (area : List ℕ) (d : BoolDecoder) (p : ℕ) (b : Bool) (r v w : ℕ) : Type 0 where
+pub record Chosen (area : List ℕ) (d : Window) (p : ℕ) (b : Bool) (r v w : ℕ) : Type 0 where
   pub is : read_bool (bits area) p (state_of area d) ≡ out b (normal 7 (bits area) (counted (state_of area d) r v))
   pub holds : Held area d.doublings v w
   pub high : r < 256
 
-module _ {area : List ℕ} {d : BoolDecoder} (O : Over area d) (p : ℕ) {s : ℕ} (is : s ≡ split d.range p) (lt : s < d.range) where
+module _ {area : List ℕ} {d : Window} (O : Over area d) (p : ℕ) {s : ℕ} (is : s ≡ split d.range p) (lt : s < d.range) where
   abbrev v : ℕ
   v = v_of area d.doublings d.value
 
@@ -145,7 +145,7 @@ module _ {area : List ℕ} {d : BoolDecoder} (O : Over area d) (p : ℕ) {s : �
     omega (arith, O.limit, limit_above d.value, mul-le-mul_right (2 ^ 56) h),
   )
 
-module _ {area : List ℕ} {d : BoolDecoder} (G : Good area d 1) {p : ℕ} {b : Bool} {r v w : ℕ} (C : Chosen area d p b r v w) where
+module _ {area : List ℕ} {d : Window} (G : Good area d 1) {p : ℕ} {b : Bool} {r v w : ℕ} (C : Chosen area d p b r v w) where
   -- the window that fill is handed holds what it makes
   pub holds_v : Held area d.doublings (v_of area d.doublings w) w
   holds_v = held_is area d.doublings v w C.holds

@@ -6,43 +6,58 @@ use native.Mathlib.Omega.{arith}
 use mathlib.Core.Path.{◌≡◌, refl, sym, ap, subst}
 use mathlib.Core.Bool.{true, false, not}
 use mathlib.Core.List.{List}
+use denote.Ref.{Bor}
 use lib.ListN.{get_or}
 use Rattle.rfc6386.specs.Decoder.{split}
 use Rattle.rfc6386.specs.Reads.{Rd, ret, ◌>>=◌, bool, when}
-use Rattle.bool_decoder.specs.Window.{Over}
-use Rattle.bool_decoder.specs.Model.{Good, Ran}
-use Rattle.bool_decoder.specs.Quiet.{narrowed, Ahead, Quiet, here, past, Finds, hit, miss}
+use Rattle.bool_decoder.specs.Window.{Over, Good, Ran}
+use Rattle.bool_decoder.specs.Quiet.{narrowed, ReadsAhead, Ahead, Quiet, here, past, Finds, hit, miss}
+use Rattle.bool_decoder.specs.declared.Window.{Window}
 use Rattle.bool_decoder.specs.declared.BoolDecoder.{BoolDecoder}
 use Rattle.bool_decoder.proofs.Chain.{then, done, on, off, fewer}
-use Rattle.bool_decoder.proofs.Same.{same_value, same_decoder}
+use Rattle.bool_decoder.proofs.Steps.{good}
 use Rattle.bool_decoder.proofs.Over.{chosen_zero, limit_is, as_it_is}
 
-module _ {area t : List ℕ} {i : ℕ} {d : BoolDecoder} where
-  pub rises : {j : ℕ} {e : BoolDecoder} → Quiet area t i d j e → i ≤ j
+-- what a decoder may read its window may
+pub ahead : {t : List ℕ} {i n : ℕ} (d : BoolDecoder) → ReadsAhead t i n d → Ahead d.area.now t i n d.window
+ahead d a = record { order = a.order; inside = a.inside; good = good d a.room }
+
+module _ {area t : List ℕ} {i : ℕ} {d : Window} where
+  pub rises : {j : ℕ} {e : Window} → Quiet area t i d j e → i ≤ j
   rises here = omega arith
   rises (past q r) = omega (arith, rises q)
 
-  over_of : {j : ℕ} {e : BoolDecoder} → Over area d → Quiet area t i d j e → Over area e
+  pub over_of : {j : ℕ} {e : Window} → Over area d → Quiet area t i d j e → Over area e
   over_of o here = o
   over_of o (past q r) = r.over
 
-  few : {j : ℕ} {e : BoolDecoder} → Quiet area t i d j e → e.bools + i ≤ d.bools + j
+  few : {j : ℕ} {e : Window} → Quiet area t i d j e → e.bools + i ≤ d.bools + j
   few here = omega arith
   few (past q r) = omega (arith, few q, r.most)
 
   -- what is left may be read
-  pub onward : {j : ℕ} {e : BoolDecoder} {n : ℕ} → j ≤ n → Ahead area t i n d → Quiet area t i d j e → Ahead area t j n e
+  pub onward : {j : ℕ} {e : Window} {n : ℕ} → j ≤ n → Ahead area t i n d → Quiet area t i d j e → Ahead area t j n e
   onward h g q = record {
     order = h;
     inside = g.inside;
     good = record { over = over_of g.good.over q; room = omega (arith, few q, rises q, g.good.room) };
   }
 
-  pub join : {j : ℕ} {e : BoolDecoder} {k : ℕ} {f : BoolDecoder} → Quiet area t i d j e → Quiet area t j e k f → Quiet area t i d k f
+  pub join : {j : ℕ} {e : Window} {k : ℕ} {f : Window} → Quiet area t i d j e → Quiet area t j e k f → Quiet area t i d k f
   join p here = p
   join p (past q r) = past (join p q) r
 
-module _ {area : List ℕ} (d : BoolDecoder) where
+module _ {t : List ℕ} {i : ℕ} {d e : BoolDecoder} {j : ℕ} (q : Quiet d.area.now t i d.window j e.window) where
+  -- after zeros a decoder may read what is left
+  pub left : {n : ℕ} → j ≤ n → ReadsAhead t i n d → ReadsAhead t j n e
+  left h a = record { order = h; inside = a.inside; room = (onward h (ahead d a) q).good.room }
+
+-- zeros that follow over the same area are joined
+pub join_over : {t : List ℕ} {at to : Bor (List ℕ)} {i j k : ℕ} {d e f : Window} → to ≡ at → Quiet at.now t i d j e → Quiet to.now t j e k f
+    → Quiet at.now t i d k f
+join_over {t} {j = j} {k = k} {e = e} {f = f} same q r = join q (subst (λ (at : Bor (List ℕ)). Quiet at.now t j e k f) same r)
+
+module _ {area : List ℕ} (d : Window) where
   -- a 0 that the limit tells
   told : (low n p next : ℕ) → Good area (narrowed d low n) 1 → next ≡ low * p / 256 → next * 256 ≤ low * 255
       → d.limit ≤ next + 1 → Ran (bool p) area (narrowed d low n) false (narrowed d next (n + 1)) 1
@@ -77,49 +92,41 @@ module _ {area : List ℕ} (d : BoolDecoder) where
   counts low h g q = omega (arith, (onward h g q).good.room)
 
 -- the search as a tree: n entries from i on
-unfoldable sought : List ℕ → ℕ → ℕ → Rd ℕ
+unfoldable pub sought : List ℕ → ℕ → ℕ → Rd ℕ
 sought t i zero = ret i
 sought t i (suc n) = bool (get_or t i 0) >>= (λ b. when (not b) (sought t (suc i) n) i)
 
-module _ {area t : List ℕ} {i : ℕ} {d : BoolDecoder} where
+module _ {area t : List ℕ} {i : ℕ} {d : Window} where
   -- zeros lead on to what is sought after them
-  leads : {j : ℕ} {e : BoolDecoder} → Quiet area t i d j e → (m n : ℕ) → j + m ≡ i + n → {k b : ℕ} {f : BoolDecoder}
+  leads : {j : ℕ} {e : Window} → Quiet area t i d j e → (m n : ℕ) → j + m ≡ i + n → {k b : ℕ} {f : Window}
       → Ran (sought t j m) area e k f b → (c : ℕ) × Ran (sought t i n) area d k f c
   unfolding sought
   leads here m n s {b} r = let same : m ≡ n = omega arith in (b, rw same at r)
   leads (past {j} q z) m n s r = leads q (suc m) n (omega arith) (then _ z (on _ refl (rw (add-one j) at r)))
 
   -- a search is the tree's
-  finds_is : {n j : ℕ} {e : BoolDecoder} → i ≤ n → Over area d → Finds area t i n d j e
+  pub finds_is : {n j : ℕ} {e : Window} → i ≤ n → Over area d → Finds area t i n d j e
       → (c : ℕ) × Ran (sought t i (n - i)) area d j e c
   unfolding sought
   finds_is {n} h o (hit {j} lt q r) = leads q (suc (n - j - 1)) (n - i) (omega (arith, rises q)) (then _ r (off _ refl r.over))
   finds_is {n} h o (miss q) = leads q 0 (n - i) (omega arith) (done (over_of o q))
 
-  -- two answers of a search are equal
-  pub same_found : {n j k : ℕ} {e f : BoolDecoder} → Ahead area t i n d → Finds area t i n d j e → Finds area t i n d k f
-      → (j ≡ k) × (e ≡ f)
-  same_found a p q =
-      let x = (finds_is a.order a.good.over p).1 in
-      let y = (finds_is a.order a.good.over q).1 in
-      (same_value x y, same_decoder x y)
-
 -- a search that ended before n
-pub record Hit (area t : List ℕ) (i : ℕ) (d : BoolDecoder) (j : ℕ) (e : BoolDecoder) : Type 0 where
-  pub from : BoolDecoder
+pub record Hit (area t : List ℕ) (i : ℕ) (d : Window) (j : ℕ) (e : Window) : Type 0 where
+  pub from : Window
   pub quiet : Quiet area t i d j from
   pub set : Ran (bool (get_or t j 0)) area from true e 1
 
-module _ {area t : List ℕ} {i n : ℕ} {d : BoolDecoder} where
+module _ {area t : List ℕ} {i n : ℕ} {d : Window} where
   -- where a search ends
-  pub lies : {j : ℕ} {e : BoolDecoder} → Finds area t i n d j e → (i ≤ j) × (j ≤ n)
+  pub lies : {j : ℕ} {e : Window} → Finds area t i n d j e → (i ≤ j) × (j ≤ n)
   lies (hit lt q r) = (rises q, omega arith)
   lies (miss q) = (rises q, omega arith)
 
-  pub found : {j : ℕ} {e : BoolDecoder} → Finds area t i n d j e → j < n → Hit area t i d j e
+  pub found : {j : ℕ} {e : Window} → Finds area t i n d j e → j < n → Hit area t i d j e
   found (hit {j} {e} lt q r) h = record { from = e; quiet = q; set = r }
   found (miss q) h = absurd (omega arith)
 
-  pub nowhere : {j : ℕ} {e : BoolDecoder} → Finds area t i n d j e → n ≤ j → Quiet area t i d n e
+  pub nowhere : {j : ℕ} {e : Window} → Finds area t i n d j e → n ≤ j → Quiet area t i d n e
   nowhere (hit lt q r) h = absurd (omega arith)
   nowhere (miss q) h = q

@@ -2,7 +2,7 @@
 -- law of trees, and a contract leaves one answer. Refusals go by those of the definition, part by part.
 use Prim.Native.Nat.{ℕ, zero, suc, ◌+◌, ◌^◌, ◌≤◌, ◌<◌}
 use native.Mathlib.Omega.{arith}
-use mathlib.Core.Path.{◌≡◌, refl, ap, sym, ◌∙◌}
+use mathlib.Core.Path.{◌≡◌, refl, ap, sym, ◌∙◌, subst}
 use mathlib.Core.Logic.{◌↔◌}
 use mathlib.Core.Bool.{Bool, true, false, ◌&&◌, and-false}
 use mathlib.Core.List.{List, ◌∷◌}
@@ -11,7 +11,9 @@ use lib.Dec.{ltb, lit<}
 use lib.ListN.{length}
 use lib.Pow.{pow-add, high, low}
 use borrow.Author.Tests.{le-ltb}
-use Rattle.rfc6386.specs.Decoder.{Out, bits, pick}
+use denote.Ref.{Bor}
+use Rattle.std.specs.Prelude.{Option, Some, None, Result, Ok, Err}
+use Rattle.rfc6386.specs.Decoder.{Out, bits, past, pick}
 use Rattle.rfc6386.specs.Frame.{sum}
 use Rattle.rfc6386.specs.Reads.{run, lit_from, lit}
 use Rattle.rfc6386.specs.Split.{beside, together, parted, lit_refusal, or_next, parts_refusal, Halfway}
@@ -19,17 +21,19 @@ use Rattle.rfc6386.proofs.Trees.{lit_small}
 use Rattle.rfc6386.proofs.Limits.{within}
 use Rattle.rfc6386.proofs.Split.{run_split, lit_bools, ways, ways_of, halfway}
 use Rattle.bool_decoder.specs.Engine.{Engine, bools_of, out, Good, Ran, Lit}
-use Rattle.bool_decoder.specs.Window.{Over}
-use Rattle.bool_decoder.specs.Model.{window, Passed, Shows}
-use Rattle.bool_decoder.specs.Answer.{UintMeets}
-use Rattle.bool_decoder.specs.Split.{Parts, none, next, UintParts, ended, goes, stops, refused_by, whole_answer}
+use Rattle.bool_decoder.specs.Model as D
+use Rattle.bool_decoder.specs.Model.{over, state_of, past_of, Passed, Shows}
+use Rattle.bool_decoder.specs.Refusal.{number_of, refused_by}
+use Rattle.bool_decoder.specs.Answer.{answered, UintMeets}
+use Rattle.bool_decoder.specs.Split.{Parts, none, next, LiteralParts, UintParts, ended, goes, stops, parts_number, whole_answer}
+use Rattle.bool_decoder.specs.Split as S
 use Rattle.bool_decoder.specs.declared.BoolDecoder.{BoolDecoder}
 use Rattle.bool_decoder.specs.declared.BoolDecoderState.{BoolDecoderState}
-use Rattle.bool_decoder.specs.declared.Uint.{Uint}
-use Rattle.bool_decoder.specs.declared.UintRead.{UintRead}
-use Rattle.bool_decoder.specs.declared.UintAnswer.{UintAnswer}
-use Rattle.bool_decoder.specs.declared.UintAnswer.TheVariants as U
+use Rattle.bool_decoder.specs.declared.Read.{Read}
+use Rattle.bool_decoder.specs.declared.ReadRefusal.{ReadRefusal}
+use Rattle.bool_decoder.specs.declared.ReadRefusal.TheVariants.{EmptyArea, AreaTooLong, TooWide, TooManyBools}
 use Rattle.bool_decoder.proofs.Chain.{done}
+use Rattle.bool_decoder.proofs.Steps.{moved}
 use Rattle.bool_decoder.proofs.Same.{same_literal, same_passed, same_uint_answer, same_position, same_past, same_seen}
 
 module _ {E : Engine} {area : List ℕ} where
@@ -82,117 +86,151 @@ module _ {E : Engine} {area : List ℕ} where
   room_whole o p g = record { over = o; room = omega (arith, counts p, g.room) }
 
 -- what is shown of one decoder is one answer
-shows_same : {area : List ℕ} {d e : BoolDecoder} {at x n at' x' n' : ℕ} {r r' : BoolDecoderState}
-    → d ≡ e → Shows area d at x r n → Shows area e at' x' r' n' → (at ≡ at') × (x ≡ x') × (r ≡ r') × (n ≡ n')
-shows_same {area} {d} {e} same s t =
+shows_same : {d e : BoolDecoder} {at x n at' x' n' : ℕ} {r r' : BoolDecoderState}
+    → d ≡ e → Shows d at x r n → Shows e at' x' r' n' → (at ≡ at') × (x ≡ x') × (r ≡ r') × (n ≡ n')
+shows_same {d} {e} same s t =
     let u = rw same at s in (
-      same_position area e u.place t.place,
-      same_past area e u.past_end t.past_end,
+      same_position e u.place t.place,
+      same_past e u.past_end t.past_end,
       same_seen u.seen t.seen,
       u.bools ∙ sym t.bools,
     )
 
+-- a literal of a decoder is one over an area that is its own
+lit_moved : {at : Bor (List ℕ)} {w v : ℕ} {d e : BoolDecoder} → d.area ≡ at → D.Lit w d v e → Lit (over at) at.now w d v e
+lit_moved {w = w} {v = v} {d = d} {e = e} same p = subst (λ (at : Bor (List ℕ)). Lit (over at) at.now w d v e) same p
+
+parts_moved : {at : Bor (List ℕ)} {ws : List ℕ} {d : BoolDecoder} {vs : List ℕ} {e : BoolDecoder} → d.area ≡ at → LiteralParts ws d vs e
+    → Parts (over at) at.now ws d vs e
+parts_moved same S.none = none
+parts_moved same (S.next p ps) = next (lit_moved same p) (parts_moved (p.ran.over ∙ same) ps)
+
 -- `read_literal`: whatever its contract lets it answer of a + b bools, and of a and then of b, value and decoder are equal
-module _ {area : List ℕ} {d : BoolDecoder} where
-  pub literal_split : {a b : ℕ} {r p q : Uint} → Lit window area (a + b) d r.value r.dec
-      → Lit window area a d p.value p.dec → Lit window area b p.dec q.value q.dec
-      → r ≡ record { value = beside b p.value q.value; dec = q.dec }
-  literal_split whole first second = same_literal whole (whole_of_two first second)
+module _ {d : BoolDecoder} where
+  pub literal_split : {a b x y z : ℕ} {r p q : BoolDecoder} → D.Lit (a + b) d x r → D.Lit a d y p → D.Lit b p z q
+      → (x ≡ beside b y z) × (r ≡ q)
+  literal_split whole first second = same_literal whole (whole_of_two first (lit_moved first.ran.over second))
 
   -- and so is what the decoder shows
-  pub literal_shows : {a b : ℕ} {r p q : Uint} {at x n at' x' n' : ℕ} {seen seen' : BoolDecoderState}
-      → Lit window area (a + b) d r.value r.dec
-      → Lit window area a d p.value p.dec → Lit window area b p.dec q.value q.dec
-      → Shows area r.dec at x seen n → Shows area q.dec at' x' seen' n'
+  pub literal_shows : {a b v y z : ℕ} {r p q : BoolDecoder} {at x n at' x' n' : ℕ} {seen seen' : BoolDecoderState}
+      → D.Lit (a + b) d v r → D.Lit a d y p → D.Lit b p z q → Shows r at x seen n → Shows q at' x' seen' n'
       → (at ≡ at') × (x ≡ x') × (seen ≡ seen') × (n ≡ n')
-  literal_shows whole first second = shows_same (ap (λ (u : Uint). u.dec) (literal_split whole first second))
+  literal_shows whole first second = shows_same (literal_split whole first second).1
 
   -- any number of parts, either way
-  pub literal_parts : {ws vs : List ℕ} {e : BoolDecoder} {r : Uint} → Over area d → Lit window area (sum ws) d r.value r.dec
-      → Parts window area ws d vs e → r ≡ record { value = together ws vs; dec = e }
-  literal_parts o whole ps = same_literal whole (whole_of o ps)
+  pub literal_parts : {ws vs : List ℕ} {v : ℕ} {r e : BoolDecoder} → D.Lit (sum ws) d v r → LiteralParts ws d vs e
+      → (v ≡ together ws vs) × (r ≡ e)
+  literal_parts whole ps = same_literal whole (whole_of refl (parts_moved refl ps))
 
-  pub literal_parted : {ws vs : List ℕ} {e : BoolDecoder} {r : Uint} → Over area d → Lit window area (sum ws) d r.value r.dec
-      → Parts window area ws d vs e → vs ≡ parted ws r.value
-  literal_parted {ws} o whole ps =
-      sym (parts_of o ps) ∙ ap (parted ws) (sym (ap (λ (u : Uint). u.value) (literal_parts o whole ps)))
+  pub literal_parted : {ws vs : List ℕ} {v : ℕ} {r e : BoolDecoder} → D.Lit (sum ws) d v r → LiteralParts ws d vs e → vs ≡ parted ws v
+  literal_parted {ws} whole ps =
+      sym (parts_of refl (parts_moved refl ps)) ∙ ap (parted ws) (sym (literal_parts whole ps).0)
 
 -- `read_uint`: its reads are literals, and the refusal of a row of them is the definition's
-module _ {area : List ℕ} where
-  reads : {ws : List ℕ} {d : BoolDecoder} {vs : List ℕ} {n : ℕ} {e : BoolDecoder} → n ≡ 0 → UintParts area ws d vs n e
-      → Parts window area ws d vs e
-  reads z ended = none
-  reads z (goes m ps) = next (lit_of m.read.ran) (reads z ps)
-  reads z (stops m) = absurd (omega (arith, z, m.some))
+some_number : (x : ReadRefusal) → 0 < number_of x
+some_number EmptyArea = lit< tt
+some_number AreaTooLong = lit< tt
+some_number TooWide = lit< tt
+some_number TooManyBools = lit< tt
 
-  refuses : {ws : List ℕ} {d : BoolDecoder} {vs : List ℕ} {n : ℕ} {e : BoolDecoder} → UintParts area ws d vs n e
-      → parts_refusal (length area) ws d.bools ≡ n
-  unfolding parts_refusal
-  refuses ended = refl
-  refuses (goes {ws = ws} m ps) = rw m.free (ap (parts_refusal (length area) ws) (sym (counts (lit_of m.read.ran))) ∙ refuses ps)
-  refuses {d = d} (stops {w = w} {ws = ws} {n = n} m) = refused n m.is m.some
-    where
-      refused : (n : ℕ) → n ≡ lit_refusal (length area) w d.bools → 0 < n
-          → or_next (lit_refusal (length area) w d.bools) (parts_refusal (length area) ws (d.bools + w)) ≡ n
-      refused zero e h = absurd (omega (arith, h))
-      refused (suc k) e h = rw (← e)
+reads : {at : Bor (List ℕ)} {ws : List ℕ} {d : BoolDecoder} {vs : List ℕ} {n : Option ReadRefusal} {e : BoolDecoder} → d.area ≡ at
+    → parts_number n ≡ 0 → UintParts ws d vs n e → Parts (over at) at.now ws d vs e
+reads same z ended = none
+reads same z (goes m ps) = next (lit_of (moved same m.read.ran)) (reads (m.read.ran.over ∙ same) z ps)
+reads same z (stops {x = x} m) = absurd (omega (arith, z, some_number x))
 
-  -- what the whole is answered, by what its parts gave: refused by 7 where it has more than 31 bools and its area is not too large, else as
-  -- the first of them that is refused, or read with all their values
-  pub uint_ways : {w : ℕ} {ws : List ℕ} {d : BoolDecoder} {vs : List ℕ} {n : ℕ} {e : BoolDecoder} (r : UintAnswer)
-      → Over area d → UintMeets area d (sum (w ∷ ws)) r → UintParts area (w ∷ ws) d vs n e
-      → r ≡ pick (ltb (length area) (2 ^ 28) && ltb 31 (sum (w ∷ ws))) (U.Refused 7) (whole_answer area (w ∷ ws) vs n e)
-  uint_ways {w} {ws} {d} {vs} {n} {e} r o m ps =
-      same_uint_answer area d (sum (w ∷ ws)) r _ m (meets (ltb (length area) (2 ^ 28) && ltb 31 (sum (w ∷ ws))) n refl refl)
-    where
-      number : lit_refusal (length area) (sum (w ∷ ws)) d.bools ≡ pick (ltb (length area) (2 ^ 28) && ltb 31 (sum (w ∷ ws))) 7 n
-      number = ways_of (length area) w ws d.bools o.count ∙ rw (refuses ps)
+refuses : {ws : List ℕ} {d : BoolDecoder} {vs : List ℕ} {n : Option ReadRefusal} {e : BoolDecoder} → UintParts ws d vs n e
+    → parts_refusal (length d.area.now) ws d.window.bools ≡ parts_number n
+unfolding parts_refusal
+refuses ended = refl
+refuses {d = d} (goes {ws = ws} {d₁ = d₁} m ps) =
+    let r = m.read.ran in
+    rw m.free (ap (parts_refusal (length d.area.now) ws) (sym (counts (lit_of r)))
+    ∙ ap (λ (at : Bor (List ℕ)). parts_refusal (length at.now) ws d₁.window.bools) (sym r.over)
+    ∙ refuses ps)
+refuses {d = d} (stops {w = w} {ws = ws} {x = x} m) = refused (number_of x) m.0.is m.0.some
+  where
+    refused : (n : ℕ) → n ≡ lit_refusal (length d.area.now) w d.window.bools → 0 < n
+        → or_next (lit_refusal (length d.area.now) w d.window.bools) (parts_refusal (length d.area.now) ws (d.window.bools + w)) ≡ n
+    refused zero e h = absurd (omega (arith, h))
+    refused (suc k) e h = rw (← e)
 
-      meets : (t : Bool) (k : ℕ) → (ltb (length area) (2 ^ 28) && ltb 31 (sum (w ∷ ws))) ≡ t → k ≡ n
-          → UintMeets area d (sum (w ∷ ws)) (pick t (U.Refused 7) (whole_answer area (w ∷ ws) vs k e))
-      meets true k et z = record { is = sym (rw et at number); some = lit< tt }
-      meets false zero et z =
-          record { free = rw et at number ∙ sym z; read = record { ran = (whole_of o (reads (sym z) ps)).ran; past = refl } }
-      meets false (suc k) et z = record { is = z ∙ sym (rw et at number); some = omega arith }
+-- what the whole is answered, by what its parts gave: refused by 7 where it has more than 31 bools and its area is not too large, else as
+-- the first of them that is refused, or read with all their values
+pub uint_ways : {w : ℕ} {ws : List ℕ} {d : BoolDecoder} {vs : List ℕ} {n : Option ReadRefusal} {e f : BoolDecoder}
+    (r : Result (Read ℕ) ReadRefusal) → UintMeets d (sum (w ∷ ws)) r f → UintParts (w ∷ ws) d vs n e
+    → answered r f
+    ≡ pick (ltb (length d.area.now) (2 ^ 28) && ltb 31 (sum (w ∷ ws))) (answered (Err TooWide) d) (whole_answer (w ∷ ws) vs n d e)
+uint_ways {w} {ws} {d} {vs} {n} {e} {f} r m ps =
+    let t = ltb (length d.area.now) (2 ^ 28) && ltb 31 (sum (w ∷ ws)) in
+    let s = same_uint_answer d (sum (w ∷ ws)) r _ m (meets t n refl refl) in
+    λ i. (s.0 i, s.1 i)
+  where
+    number : lit_refusal (length d.area.now) (sum (w ∷ ws)) d.window.bools
+        ≡ pick (ltb (length d.area.now) (2 ^ 28) && ltb 31 (sum (w ∷ ws))) 7 (parts_number n)
+    number = ways_of (length d.area.now) w ws d.window.bools d.over.count ∙ rw (refuses ps)
 
-  -- so for widths that add up to 31 at most the two ways answer alike
-  pub uint_parts : {w : ℕ} {ws : List ℕ} {d : BoolDecoder} {vs : List ℕ} {n : ℕ} {e : BoolDecoder} (r : UintAnswer)
-      → Over area d → sum (w ∷ ws) ≤ 31 → UintMeets area d (sum (w ∷ ws)) r → UintParts area (w ∷ ws) d vs n e
-      → r ≡ whole_answer area (w ∷ ws) vs n e
-  uint_parts {w} {ws} r o h m ps = uint_ways r o m ps ∙ rw (le-ltb 31 (sum (w ∷ ws)) h, and-false)
+    meets : (t : Bool) (k : Option ReadRefusal) → (ltb (length d.area.now) (2 ^ 28) && ltb 31 (sum (w ∷ ws))) ≡ t → k ≡ n
+        → let o = pick t (answered (Err TooWide) d) (whole_answer (w ∷ ws) vs k d e) in
+        UintMeets d (sum (w ∷ ws)) o.0 o.1
+    meets true k et z = (record { is = sym (rw et at number); some = lit< tt }, refl)
+    meets false None et z =
+        let none : parts_number n ≡ 0 = ap parts_number (sym z) in
+        let ran = (whole_of refl (reads refl none ps)).ran in
+        record {
+          free = rw et at number ∙ none;
+          read = record { ran = ran; past = ap (λ (at : Bor (List ℕ)). past (bits at.now) (state_of e)) ran.over };
+        }
+    meets false (Some x) et z = (record { is = ap parts_number z ∙ sym (rw et at number); some = some_number x }, refl)
 
-module _ {area : List ℕ} {a b : ℕ} {d : BoolDecoder} {p : UintRead} (first : UintMeets area d a (U.Read p)) where
+-- so for widths that add up to 31 at most the two ways answer alike
+pub uint_parts : {w : ℕ} {ws : List ℕ} {d : BoolDecoder} {vs : List ℕ} {n : Option ReadRefusal} {e f : BoolDecoder}
+    (r : Result (Read ℕ) ReadRefusal) → sum (w ∷ ws) ≤ 31 → UintMeets d (sum (w ∷ ws)) r f → UintParts (w ∷ ws) d vs n e
+    → answered r f ≡ whole_answer (w ∷ ws) vs n d e
+uint_parts {w} {ws} r h m ps = uint_ways r m ps ∙ rw (le-ltb 31 (sum (w ∷ ws)) h, and-false)
+
+module _ {a b : ℕ} {d : BoolDecoder} {p : Read ℕ} {d₁ : BoolDecoder} (first : UintMeets d a (Ok p) d₁) where
   -- two parts that are read are a read of the whole
-  both : {q : UintRead} → UintMeets area p.dec b (U.Read q)
-      → Passed (lit (a + b)) area d (beside b p.value q.value) q.past q.dec (a + b)
-  both second = record { ran = (whole_of_two (lit_of first.read.ran) (lit_of second.read.ran)).ran; past = second.read.past }
+  both : {q : Read ℕ} {e : BoolDecoder} → UintMeets d₁ b (Ok q) e → Passed (lit (a + b)) d (beside b p.value q.value) q.past e (a + b)
+  both {e = e} second =
+      let r = first.read.ran in
+      record {
+        ran = (whole_of_two (lit_of r) (lit_of (moved r.over second.read.ran))).ran;
+        past = second.read.past ∙ ap (λ (at : Bor (List ℕ)). past (bits at.now) (state_of e)) r.over;
+      }
 
   -- and up to 31 bools the whole is read then
-  pub uint_split : {q : UintRead} (r : UintAnswer) → a + b ≤ 31 → UintMeets area d (a + b) r → UintMeets area p.dec b (U.Read q)
-      → r ≡ U.Read (record { value = beside b p.value q.value; past = q.past; dec = q.dec })
-  uint_split r h m second =
-      let few = (within (length area) a a d.bools first.free).few in
-      let number : lit_refusal (length area) (a + b) d.bools ≡ 0 =
-      ways (length area) a b d.bools (omega (arith, few))
-      ∙ rw (le-ltb 31 (a + b) h, and-false, first.free, ← counts (lit_of first.read.ran), second.free) in
-      same_uint_answer area d (a + b) r _ m (record { free = number; read = both second })
+  pub uint_split : {q : Read ℕ} (r : Result (Read ℕ) ReadRefusal) {e f : BoolDecoder} → a + b ≤ 31 → UintMeets d (a + b) r f
+      → UintMeets d₁ b (Ok q) e → answered r f ≡ answered (Ok (record { value = beside b p.value q.value; past = q.past })) e
+  uint_split {q} r {e} h m second =
+      let few = (within (length d.area.now) a a d.window.bools first.free).few in
+      let free : lit_refusal (length d.area.now) b (d.window.bools + a) ≡ 0 =
+      ap (lit_refusal (length d.area.now) b) (sym (counts (lit_of first.read.ran)))
+      ∙ ap (λ (at : Bor (List ℕ)). lit_refusal (length at.now) b d₁.window.bools) (sym first.read.ran.over)
+      ∙ second.free in
+      let number : lit_refusal (length d.area.now) (a + b) d.window.bools ≡ 0 =
+      ways (length d.area.now) a b d.window.bools (omega (arith, few))
+      ∙ rw (le-ltb 31 (a + b) h, and-false, first.free, free) in
+      let s = same_uint_answer d (a + b) r (Ok (record { value = beside b p.value q.value; past = q.past })) m
+      (record { free = number; read = both second }) in
+      λ i. (s.0 i, s.1 i)
 
   -- where neither way is refused, value, bits past the end and decoder are equal, and what the decoder shows
-  pub uint_read : {r q : UintRead} → UintMeets area d (a + b) (U.Read r) → UintMeets area p.dec b (U.Read q)
-      → r ≡ record { value = beside b p.value q.value; past = q.past; dec = q.dec }
-  uint_read whole second =
-      same_passed {S = UintRead} (λ v n e. record { value = v; past = n; dec = e }) whole.read (both second)
+  pub uint_read : {r q : Read ℕ} {e f : BoolDecoder} → UintMeets d (a + b) (Ok r) f → UintMeets d₁ b (Ok q) e
+      → (r.value ≡ beside b p.value q.value) × (r.past ≡ q.past) × (f ≡ e)
+  uint_read whole second = same_passed whole.read (both second)
 
-  pub uint_shows : {r q : UintRead} {at x n at' x' n' : ℕ} {seen seen' : BoolDecoderState}
-      → UintMeets area d (a + b) (U.Read r) → UintMeets area p.dec b (U.Read q)
-      → Shows area r.dec at x seen n → Shows area q.dec at' x' seen' n'
+  pub uint_shows : {r q : Read ℕ} {e f : BoolDecoder} {at x n at' x' n' : ℕ} {seen seen' : BoolDecoderState}
+      → UintMeets d (a + b) (Ok r) f → UintMeets d₁ b (Ok q) e → Shows f at x seen n → Shows e at' x' seen' n'
       → (at ≡ at') × (x ≡ x') × (seen ≡ seen') × (n ≡ n')
-  uint_shows whole second = shows_same (ap (λ (u : UintRead). u.dec) (uint_read whole second))
+  uint_shows whole second = shows_same (uint_read whole second).2
 
   -- exactly where the first part is read and the whole is refused
-  pub uint_halfway : (r : UintAnswer) → UintMeets area d (a + b) r → (0 < refused_by r) ↔ Halfway (length area) a b d.bools
-  uint_halfway r m = rw (number r m) (halfway (length area) a b d.bools first.free)
+  pub uint_halfway : (r : Result (Read ℕ) ReadRefusal) (f : BoolDecoder) → UintMeets d (a + b) r f
+      → (0 < refused_by r) ↔ Halfway (length d.area.now) a b d.window.bools
+  uint_halfway r f m = rw (number r f m) (halfway (length d.area.now) a b d.window.bools first.free)
     where
-      number : (r : UintAnswer) → UintMeets area d (a + b) r → refused_by r ≡ lit_refusal (length area) (a + b) d.bools
-      number (U.Read r) m = sym m.free
-      number (U.Refused n) m = m.is
+      number : (r : Result (Read ℕ) ReadRefusal) (f : BoolDecoder) → UintMeets d (a + b) r f
+          → refused_by r ≡ lit_refusal (length d.area.now) (a + b) d.window.bools
+      number (Ok r) f m = sym m.free
+      number (Err x) f m = m.0.is

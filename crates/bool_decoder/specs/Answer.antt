@@ -1,31 +1,34 @@
 -- What the bare decoder answers. For each case of an answer: the number of its refusal, or that nothing is refused, and what was read.
-use Rattle.std.specs.Prelude.{ℕ, ◌+◌, List}
+use Rattle.std.specs.Prelude.{ℕ, ◌+◌, ◌≡◌, Bool, ℤ, Result, Ok, Err}
 use Rattle.rfc6386.specs.Reads.{Rd, bool, lit, sint}
 use Rattle.bool_decoder.specs.Engine as By
-use Rattle.bool_decoder.specs.Model.{window}
+use Rattle.bool_decoder.specs.Model.{over}
+use Rattle.bool_decoder.specs.Refusal.{number_of}
 use Rattle.bool_decoder.specs.declared.BoolDecoder.{BoolDecoder}
-use Rattle.bool_decoder.specs.declared.BoolAnswer.{BoolAnswer}
-use Rattle.bool_decoder.specs.declared.BoolAnswer.TheVariants as B
-use Rattle.bool_decoder.specs.declared.UintAnswer.{UintAnswer}
-use Rattle.bool_decoder.specs.declared.UintAnswer.TheVariants as U
-use Rattle.bool_decoder.specs.declared.SintAnswer.{SintAnswer}
-use Rattle.bool_decoder.specs.declared.SintAnswer.TheVariants as S
+use Rattle.bool_decoder.specs.declared.Read.{Read}
+use Rattle.bool_decoder.specs.declared.ReadRefusal.{ReadRefusal}
 
--- those of `Engine`, of the window
-abbrev pub Refuses : List ℕ → BoolDecoder → ℕ → ℕ → ℕ → Type 0
-Refuses area d width wanted number = By.Refuses window area d width wanted number
+-- those of `Engine`, of the decoder
+abbrev pub Refuses : BoolDecoder → ℕ → ℕ → ℕ → Type 0
+Refuses d width wanted number = By.Refuses (over d.area) d.area.now d width wanted number
 
-abbrev pub Allows : {A : Type 0} → Rd A → List ℕ → BoolDecoder → ℕ → ℕ → A → ℕ → BoolDecoder → Type 0
-Allows m area d width wanted a q d' = By.Allows window m area d width wanted a q d'
+abbrev pub Allows : {A : Type 0} → Rd A → BoolDecoder → ℕ → ℕ → A → ℕ → BoolDecoder → Type 0
+Allows m d width wanted a q d' = By.Allows (over d.area) m d.area.now d width wanted a q d'
 
-abbrev pub BoolMeets : List ℕ → BoolDecoder → ℕ → BoolAnswer → Type 0
-BoolMeets area d p (B.Read r) = Allows (bool p) area d 1 1 r.bit r.past r.dec
-BoolMeets area d p (B.Refused number) = Refuses area d 1 1 number
+-- the answer to a read of this width that wants so many bools; a refused one leaves the decoder as it was
+abbrev pub Meets : {A : Type 0} → Rd A → BoolDecoder → ℕ → ℕ → Result (Read A) ReadRefusal → BoolDecoder → Type 0
+Meets m d width wanted (Ok r) d' = Allows m d width wanted r.value r.past d'
+Meets m d width wanted (Err e) d' = Refuses d width wanted (number_of e) × (d' ≡ d)
 
-abbrev pub UintMeets : List ℕ → BoolDecoder → ℕ → UintAnswer → Type 0
-UintMeets area d n (U.Read r) = Allows (lit n) area d n n r.value r.past r.dec
-UintMeets area d n (U.Refused number) = Refuses area d n n number
+-- an answer, and the decoder after it
+abbrev pub answered : {A : Type 0} → Result (Read A) ReadRefusal → BoolDecoder → Result (Read A) ReadRefusal × BoolDecoder
+answered r d = (r, d)
 
-abbrev pub SintMeets : List ℕ → BoolDecoder → ℕ → SintAnswer → Type 0
-SintMeets area d n (S.Read r) = Allows (sint n) area d n (n + 1) r.value r.past r.dec
-SintMeets area d n (S.Refused number) = Refuses area d n (n + 1) number
+abbrev pub BoolMeets : BoolDecoder → ℕ → Result (Read Bool) ReadRefusal → BoolDecoder → Type 0
+BoolMeets d p r d' = Meets (bool p) d 1 1 r d'
+
+abbrev pub UintMeets : BoolDecoder → ℕ → Result (Read ℕ) ReadRefusal → BoolDecoder → Type 0
+UintMeets d n r d' = Meets (lit n) d n n r d'
+
+abbrev pub SintMeets : BoolDecoder → ℕ → Result (Read ℤ) ReadRefusal → BoolDecoder → Type 0
+SintMeets d n r d' = Meets (sint n) d n (n + 1) r d'

@@ -1,15 +1,12 @@
 // The boolean decoder of bool_decoder.rs: bools, literals, signed literals, position and snapshot; and beyond it the bits past the end.
-// It goes by value, and the area is passed along with it.
-// Inner reads ask for a decoder over the area with room for the bools; the public ones test the limits first, and refuse. Their answers
-// carry the bits past the end too.
+// Inner reads ask for room for the bools; the public ones test the limits first, and refuse. Their answers carry the bits past the end too.
 #![tactic(auto)]
 
-ghost use Rattle.std.specs.Prelude.{◌≡◌, ◌&&◌, ◌+◌, ◌-◌, ◌*◌, ◌^◌, ◌<◌, ◌≤◌};
-ghost use Rattle.rfc6386.specs.Decoder.{bits, split, pick, refusal_of, position, past};
-ghost use Rattle.rfc6386.specs.Reads.{bool, flag, bit, signed};
-ghost use Rattle.bool_decoder.specs.Window.{Held, v_of, v_after, state_of, limit_of, Over};
-ghost use Rattle.bool_decoder.specs.Model.{Good, Ran, Lit, Sgn, Fresh, Seen};
-ghost use Rattle.bool_decoder.specs.Answer.{BoolMeets, UintMeets, SintMeets};
+ghost use Rattle.std.specs.Prelude.{◌≡◌, ◌+◌, ◌-◌, ◌*◌, ◌^◌, ◌<◌, ◌≤◌};
+ghost use Rattle.rfc6386.specs.Decoder.{split, refusal_of};
+ghost use Rattle.rfc6386.specs.Reads.{bit, signed};
+ghost use Rattle.bool_decoder.specs.Window.{Held, v_of, v_after, limit_of, Over};
+ghost use Rattle.bool_decoder.specs.Refusal.{number_of, refused_by};
 
 use bitstream_utils::byte_at;
 
@@ -17,9 +14,9 @@ mod norm;
 pub mod reads;
 pub mod zeros;
 
-// The state of RFC 6386 section 7.2 over an area. No other crate names its fields.
+// The state of RFC 6386 section 7.2, but for the area.
 #[derive(Clone, Copy)]
-pub struct BoolDecoder {
+struct Window {
     // R, from 128 to 255 between reads.
     range: u32,
     // A split of this or more tells a 0 by itself: a function of `value`, kept so that most bools need no window.
@@ -32,29 +29,16 @@ pub struct BoolDecoder {
     bools: u32,
 }
 
-// A bool, and the decoder after it.
+// A decoder over an area. That it is fresh, or was left by reads over that area, is a fact of its type.
 #[derive(Clone, Copy)]
-pub struct Bit {
-    pub bit: bool,
-    pub dec: BoolDecoder,
-}
-
-// A literal, and the decoder after it.
-#[derive(Clone, Copy)]
-pub struct Uint {
-    pub value: u32,
-    pub dec: BoolDecoder,
-}
-
-// A signed literal, and the decoder after it.
-#[derive(Clone, Copy)]
-pub struct Sint {
-    pub value: i32,
-    pub dec: BoolDecoder,
+pub struct BoolDecoder<'a> {
+    area: &'a [u8],
+    window: Window,
+    ghost over: { Over area.now window },
 }
 
 // A capture of the decoder's state, for the next decoding step.
-#[derive(Clone, Copy)]
+#[derive(Clone, Copy, PartialEq, Eq, Debug)]
 pub struct BoolDecoderState {
     // R.
     pub range: u8,
@@ -64,58 +48,38 @@ pub struct BoolDecoderState {
     pub count: u8,
 }
 
-// A bool of the bare decoder.
-#[derive(Clone, Copy)]
-pub struct BoolRead {
-    // What was read.
-    pub bit: bool,
-    // How many bits the decoder has gone past the area's end.
+// What was read, and how many bits the decoder has then gone past the area's end.
+#[derive(Clone, Copy, PartialEq, Eq, Debug)]
+pub struct Read<T> {
+    pub value: T,
     pub past: u32,
-    // The decoder after it.
-    pub dec: BoolDecoder,
 }
 
-// A literal of the bare decoder.
-#[derive(Clone, Copy)]
-pub struct UintRead {
-    // What was read.
-    pub value: u32,
-    // How many bits the decoder has gone past the area's end.
-    pub past: u32,
-    // The decoder after it.
-    pub dec: BoolDecoder,
+// Why the bare decoder refuses a read. The limits are tested in the order 6, 7, 4, 8.
+#[derive(Clone, Copy, PartialEq, Eq, Debug)]
+pub enum ReadRefusal {
+    // The area has no byte.
+    EmptyArea,
+    // The area has 2 ^ 28 bytes or more.
+    AreaTooLong,
+    // A literal of more than 31 bools.
+    TooWide,
+    // More than 2 ^ 24 bools over one area.
+    TooManyBools,
 }
 
-// A signed literal of the bare decoder.
-#[derive(Clone, Copy)]
-pub struct SintRead {
-    // What was read.
-    pub value: i32,
-    // How many bits the decoder has gone past the area's end.
-    pub past: u32,
-    // The decoder after it.
-    pub dec: BoolDecoder,
-}
-
-// What the bare decoder answers of a bool: it, or the number of its refusal.
-#[derive(Clone, Copy)]
-pub enum BoolAnswer {
-    Read(BoolRead),
-    Refused(u32),
-}
-
-// The same of a literal.
-#[derive(Clone, Copy)]
-pub enum UintAnswer {
-    Read(UintRead),
-    Refused(u32),
-}
-
-// The same of a signed literal.
-#[derive(Clone, Copy)]
-pub enum SintAnswer {
-    Read(SintRead),
-    Refused(u32),
+impl ReadRefusal {
+    // The number that names it outside.
+    pub fn number(self) -> u32
+        ensures { result ≡ number_of self }
+    {
+        match self {
+            ReadRefusal::EmptyArea => 4,
+            ReadRefusal::AreaTooLong => 6,
+            ReadRefusal::TooWide => 7,
+            ReadRefusal::TooManyBools => 8,
+        }
+    }
 }
 
 // S, which lies in 1 .. range - 1.
@@ -180,305 +144,243 @@ pub fn signed_of(magnitude: u32, sign: bool) -> i32
     if sign { -value } else { value }
 }
 
-// This number where the test holds, and else the next.
-fn refuse_if(test: bool, number: u32, next: u32) -> u32
-    ensures { result ≡ pick test number next }
-{
-    if test { number } else { next }
-}
-
-// Whether both hold.
-fn both(a: bool, b: bool) -> bool
-    ensures { result ≡ a && b }
-{
-    a && b
-}
-
-// The number of the refusal, or 0: a later line goes before an earlier one, so 6, 7, 4, 8. A signed literal wants one bool beside its
-// width.
-fn refusal(size: usize, width: u32, extra: u32, bools: u32) -> u32
-    ensures { result ≡ refusal_of size width (width + extra) bools }
+// Whether a read of this width is within the limits. A signed literal wants one bool beside its width.
+fn check_limits(size: usize, width: u32, extra: u32, bools: u32) -> Result<(), ReadRefusal>
+    ensures { refused_by result ≡ refusal_of size width (width + extra) bools }
 {
     let wanted = (width as u64) + (extra as u64);
-    let room = refuse_if(
-        (BoolDecoder::MOST_BOOLS as u64) < (bools as u64) + wanted,
-        8,
-        0,
-    );
-    let some = refuse_if(both(size == 0, 0 < wanted), 4, room);
-    let narrow = refuse_if(BoolDecoder::WIDEST < width, 7, some);
-    refuse_if(BoolDecoder::AREA_LIMIT <= size, 6, narrow)
+    if BoolDecoder::AREA_LIMIT <= size {
+        return Err(ReadRefusal::AreaTooLong);
+    }
+    if BoolDecoder::WIDEST < width {
+        return Err(ReadRefusal::TooWide);
+    }
+    if size == 0 && 0 < wanted {
+        return Err(ReadRefusal::EmptyArea);
+    }
+    if BoolDecoder::MOST_BOOLS < (bools as u64) + wanted {
+        return Err(ReadRefusal::TooManyBools);
+    }
+    Ok(())
 }
 
-impl BoolDecoder {
+impl<'a> BoolDecoder<'a> {
+    ghost use Rattle.std.specs.Prelude.{◌≡◌, ◌+◌, ◌≤◌};
+    ghost use Rattle.rfc6386.specs.Reads.{bool, flag};
+    ghost use Rattle.bool_decoder.specs.Model.{bools_of, position_of, past_of, Room, Ran, Lit, Sgn, Fresh, Seen};
+    ghost use Rattle.bool_decoder.specs.Answer.{BoolMeets, UintMeets, SintMeets};
+
     // R at the start.
     const START_RANGE: u32 = 255;
 
-    // The widest literal that is read; refusal 7 above it.
+    // The widest literal that is read.
     const WIDEST: u32 = 31;
 
-    // 2 ^ 24: refusal 8 above it.
-    const MOST_BOOLS: u32 = 16777216;
+    // The most bools that are read over one area, 2 ^ 24.
+    const MOST_BOOLS: u64 = 16777216;
 
-    // 2 ^ 28: refusal 6 from it on.
+    // No area has as many bytes, 2 ^ 28.
     const AREA_LIMIT: usize = 268435456;
 
     // At the area's start: V is its first bytes, R is 255.
-    pub fn new(area: &[u8]) -> Self
-        ensures { Fresh area.now result }
+    pub fn new(area: &'a [u8]) -> Self
+        ensures { Fresh area.entry result }
     {
         let mut value: u64 = 0;
-        let mut at: usize = 0;
-        while at < 8 {
+        for at in 0..8 {
             value = value * 256 + byte_at(area, at) as u64;
-            at += 1;
         }
-        Self {
+        let window = Window {
             range: BoolDecoder::START_RANGE,
             limit: limit_of(value),
             value,
             doublings: 0,
             bools: 0,
-        }
+        };
+        BoolDecoder { area, window }
     }
 
     // A bool at the chance probability / 256 of a 0: section 7.2.
-    pub fn read_bit(self, area: &[u8], probability: u8) -> Bit
-        requires { Good area.now self 1 }
-        ensures { Ran (bool probability) area.now self result.bit result.dec 1 }
+    pub fn read_bit(&mut self, probability: u8) -> bool
+        requires { Room self.old 1 }
+        ensures { Ran (bool probability) self.old result self.new 1 }
     {
-        let split = split_of(self.range, probability);
-        if self.limit <= split {
-            return Bit {
-                bit: false,
-                dec: BoolDecoder {
-                    range: split,
-                    limit: self.limit,
-                    value: self.value,
-                    doublings: self.doublings,
-                    bools: self.bools + 1,
-                },
-            };
+        let old = self.window;
+        let split = split_of(old.range, probability);
+        if old.limit <= split {
+            self.window.range = split;
+            self.window.bools += 1;
+            return false;
         }
         let big = bigsplit(split);
-        if big <= self.value {
-            let range = self.range - split;
+        if big <= old.value {
+            let range = old.range - split;
             let shift = norm::norm(range);
-            let value = fill(area, self.value - big, self.doublings, shift);
-            Bit {
-                bit: true,
-                dec: BoolDecoder {
-                    range: range << shift,
-                    limit: limit_of(value),
-                    value,
-                    doublings: self.doublings + shift,
-                    bools: self.bools + 1,
-                },
-            }
+            let value = fill(self.area, old.value - big, old.doublings, shift);
+            self.window = Window {
+                range: range << shift,
+                limit: limit_of(value),
+                value,
+                doublings: old.doublings + shift,
+                bools: old.bools + 1,
+            };
+            true
         } else {
             let shift = norm::norm(split);
-            let value = fill(area, self.value, self.doublings, shift);
-            Bit {
-                bit: false,
-                dec: BoolDecoder {
-                    range: split << shift,
-                    limit: limit_of(value),
-                    value,
-                    doublings: self.doublings + shift,
-                    bools: self.bools + 1,
-                },
-            }
+            let value = fill(self.area, old.value, old.doublings, shift);
+            self.window = Window {
+                range: split << shift,
+                limit: limit_of(value),
+                value,
+                doublings: old.doublings + shift,
+                bools: old.bools + 1,
+            };
+            false
         }
     }
 
     // A bool at even chances: it doubles once, or not at all. The limit is made of the window each time, so that several in a row make it
     // once.
-    pub fn read_flag(self, area: &[u8]) -> Bit
-        requires { Good area.now self 1 }
-        ensures { Ran flag area.now self result.bit result.dec 1 }
+    pub fn read_flag(&mut self) -> bool
+        requires { Room self.old 1 }
+        ensures { Ran flag self.old result self.new 1 }
     {
-        let split = half_of(self.range);
+        let old = self.window;
+        let split = half_of(old.range);
         let big = bigsplit(split);
-        if big <= self.value {
-            let value = fill(area, self.value - big, self.doublings, 1);
-            Bit {
-                bit: true,
-                dec: BoolDecoder {
-                    range: (self.range - split) * 2,
-                    limit: limit_of(value),
-                    value,
-                    doublings: self.doublings + 1,
-                    bools: self.bools + 1,
-                },
-            }
+        if big <= old.value {
+            let value = fill(self.area, old.value - big, old.doublings, 1);
+            self.window = Window {
+                range: (old.range - split) * 2,
+                limit: limit_of(value),
+                value,
+                doublings: old.doublings + 1,
+                bools: old.bools + 1,
+            };
+            true
+        } else if 128 <= split {
+            self.window.range = split;
+            self.window.limit = limit_of(old.value);
+            self.window.bools = old.bools + 1;
+            false
         } else {
-            if 128 <= split {
-                return Bit {
-                    bit: false,
-                    dec: BoolDecoder {
-                        range: split,
-                        limit: limit_of(self.value),
-                        value: self.value,
-                        doublings: self.doublings,
-                        bools: self.bools + 1,
-                    },
-                };
-            }
-            let value = fill(area, self.value, self.doublings, 1);
-            Bit {
-                bit: false,
-                dec: BoolDecoder {
-                    range: split * 2,
-                    limit: limit_of(value),
-                    value,
-                    doublings: self.doublings + 1,
-                    bools: self.bools + 1,
-                },
-            }
+            let value = fill(self.area, old.value, old.doublings, 1);
+            self.window = Window {
+                range: split * 2,
+                limit: limit_of(value),
+                value,
+                doublings: old.doublings + 1,
+                bools: old.bools + 1,
+            };
+            false
         }
     }
 
     // nbits bools at even chances, the high bit first.
-    pub fn read_literal(self, area: &[u8], nbits: u32) -> Uint
-        requires { (nbits ≤ 31) × Good area.now self nbits }
-        ensures { Lit area.now nbits self result.value result.dec }
+    pub fn read_literal(&mut self, nbits: u32) -> u32
+        requires { (nbits ≤ 31) × Room self.old nbits }
+        ensures { Lit nbits self.old result self.new }
     {
         let mut value: u32 = 0;
-        let mut dec = self;
         for _ in 0..nbits {
-            let read = dec.read_flag(area);
-            value = value * 2 + digit(read.bit);
-            dec = read.dec;
+            value = value * 2 + digit(self.read_flag());
         }
-        Uint { value, dec }
+        value
     }
 
     // A magnitude of nbits bools, then a sign.
-    pub fn read_signed(self, area: &[u8], nbits: u32) -> Sint
-        requires { (nbits ≤ 31) × Good area.now self (nbits + 1) }
-        ensures { Sgn area.now nbits self result.value result.dec }
+    pub fn read_signed(&mut self, nbits: u32) -> i32
+        requires { (nbits ≤ 31) × Room self.old (nbits + 1) }
+        ensures { Sgn nbits self.old result self.new }
     {
-        let magnitude = self.read_literal(area, nbits);
-        let sign = magnitude.dec.read_flag(area);
-        let dec = sign.dec;
-        Sint {
-            value: signed_of(magnitude.value, sign.bit),
-            dec,
-        }
+        let magnitude = self.read_literal(nbits);
+        let sign = self.read_flag();
+        signed_of(magnitude, sign)
     }
 
     // How many bools were read.
-    pub fn bools(self) -> u32
-        ensures { result ≡ self.bools }
+    pub fn bools(&self) -> u32
+        ensures { result ≡ bools_of self.now }
     {
-        self.bools
+        self.window.bools
     }
 
     // In bits; it stops at the area's end.
-    pub fn pos(self, area: &[u8]) -> u32
-        ensures { result ≡ position (bits area.now) (state_of area.now self) }
+    pub fn pos(&self) -> u32
+        ensures { result ≡ position_of self.now }
     {
-        if ((self.doublings / 8) as usize) < area.len() {
-            self.doublings
+        let doublings = self.window.doublings;
+        if ((doublings / 8) as usize) < self.area.len() {
+            doublings
         } else {
-            (area.len() * 8) as u32
+            (self.area.len() * 8) as u32
         }
     }
 
     // In bits: how far the doublings have gone past the area's end, where the position has stopped; 0 before it.
-    pub fn past(self, area: &[u8]) -> u32
-        ensures { result ≡ past (bits area.now) (state_of area.now self) }
+    pub fn past(&self) -> u32
+        ensures { result ≡ past_of self.now }
     {
-        let at = self.pos(area);
-        self.doublings - at
+        let at = self.pos();
+        self.window.doublings - at
     }
 
     // The count follows the doublings, even where the position has stopped.
-    pub fn snapshot(self, area: &[u8]) -> BoolDecoderState
-        requires { Over area.now self }
-        ensures { Seen area.now self result }
+    pub fn snapshot(&self) -> BoolDecoderState
+        ensures { Seen self.now result }
     {
         BoolDecoderState {
-            range: self.range as u8,
-            value: (self.value >> 56) as u8,
-            count: ((8 - self.doublings % 8) % 8) as u8,
+            range: self.window.range as u8,
+            value: (self.window.value >> 56) as u8,
+            count: ((8 - self.window.doublings % 8) % 8) as u8,
         }
     }
 
-    // The bare decoder: each read refuses before any bool is read. Its one premise: `self` is fresh or left by reads over the same area.
-    // A bool at a chance.
-    pub fn read_bool_with_prob(self, area: &[u8], probability: u8) -> BoolAnswer
-        requires { Over area.now self }
-        ensures { BoolMeets area.now self probability result }
+    // A value that was just read, with the bits past the end beside it.
+    pub fn with_past<T>(&self, value: T) -> Read<T>
+        ensures value { result.value ≡ value }
+        ensures past { result.past ≡ past_of self.now }
     {
-        let number = refusal(area.len(), 1, 0, self.bools);
-        if number != 0 {
-            return BoolAnswer::Refused(number);
+        Read {
+            value,
+            past: self.past(),
         }
-        let read = self.read_bit(area, probability);
-        let dec = read.dec;
-        let past = dec.past(area);
-        BoolAnswer::Read(BoolRead {
-            bit: read.bit,
-            past,
-            dec,
-        })
+    }
+
+    // The bare decoder: each read refuses before any bool is read.
+    // A bool at a chance.
+    pub fn read_bool_with_prob(&mut self, probability: u8) -> Result<Read<bool>, ReadRefusal>
+        ensures { BoolMeets self.old probability result self.new }
+    {
+        check_limits(self.area.len(), 1, 0, self.window.bools)?;
+        let value = self.read_bit(probability);
+        Ok(self.with_past(value))
     }
 
     // A bool at even chances.
-    pub fn read_bool(self, area: &[u8]) -> BoolAnswer
-        requires { Over area.now self }
-        ensures { BoolMeets area.now self 128 result }
+    pub fn read_bool(&mut self) -> Result<Read<bool>, ReadRefusal>
+        ensures { BoolMeets self.old 128 result self.new }
     {
-        let number = refusal(area.len(), 1, 0, self.bools);
-        if number != 0 {
-            return BoolAnswer::Refused(number);
-        }
-        let read = self.read_flag(area);
-        let dec = read.dec;
-        let past = dec.past(area);
-        BoolAnswer::Read(BoolRead {
-            bit: read.bit,
-            past,
-            dec,
-        })
+        check_limits(self.area.len(), 1, 0, self.window.bools)?;
+        let value = self.read_flag();
+        Ok(self.with_past(value))
     }
 
     // A literal of nbits bools.
-    pub fn read_uint(self, area: &[u8], nbits: u32) -> UintAnswer
-        requires { Over area.now self }
-        ensures { UintMeets area.now self nbits result }
+    pub fn read_uint(&mut self, nbits: u32) -> Result<Read<u32>, ReadRefusal>
+        ensures { UintMeets self.old nbits result self.new }
     {
-        let number = refusal(area.len(), nbits, 0, self.bools);
-        if number != 0 {
-            return UintAnswer::Refused(number);
-        }
-        let read = self.read_literal(area, nbits);
-        let dec = read.dec;
-        let past = dec.past(area);
-        UintAnswer::Read(UintRead {
-            value: read.value,
-            past,
-            dec,
-        })
+        check_limits(self.area.len(), nbits, 0, self.window.bools)?;
+        let value = self.read_literal(nbits);
+        Ok(self.with_past(value))
     }
 
     // A signed literal: nbits bools of magnitude, then a sign.
-    pub fn read_sint(self, area: &[u8], nbits: u32) -> SintAnswer
-        requires { Over area.now self }
-        ensures { SintMeets area.now self nbits result }
+    pub fn read_sint(&mut self, nbits: u32) -> Result<Read<i32>, ReadRefusal>
+        ensures { SintMeets self.old nbits result self.new }
     {
-        let number = refusal(area.len(), nbits, 1, self.bools);
-        if number != 0 {
-            return SintAnswer::Refused(number);
-        }
-        let read = self.read_signed(area, nbits);
-        let dec = read.dec;
-        let past = dec.past(area);
-        SintAnswer::Read(SintRead {
-            value: read.value,
-            past,
-            dec,
-        })
+        check_limits(self.area.len(), nbits, 1, self.window.bools)?;
+        let value = self.read_signed(nbits);
+        Ok(self.with_past(value))
     }
 }

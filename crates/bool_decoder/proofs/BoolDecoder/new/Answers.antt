@@ -5,6 +5,7 @@ use native.Mathlib.Nat.{pow-le-pow_right}
 use lib.Dec.{lit<}
 use Rattle.bool_decoder.proofs.Stream.{rest_zero, more, more_lt}
 use Rattle.bool_decoder.proofs.Over.{fresh}
+use Rattle.bool_decoder.proofs.Steps.{begins}
 use Rattle.bool_decoder.proofs.BoolDecoder.new.Goals as goal
 
 pub loop-at-init : goal.loop-at-init
@@ -26,8 +27,13 @@ loop-at-preserved c = let a = c.args.area.now in
       rw c.byte_at.ensures (more a p.value p.at p.invariant.2),
     )
 
-pub returns : goal.returns
-returns c = let a = c.args.area.now in
-    let p = c.loop-at in
+pub invariant_of-result : goal.invariant_of-result
+invariant_of-result c = let p = c.loop-at in
     let bytes = c.type_inv.area in
-    rw c.limit_of.ensures (fresh a p.value p.at (omega arith) p.invariant.1 p.invariant.2 (λ i. (bytes i).fits))
+    let f = fresh c.args.area.now p.value p.at (omega (arith, p.auto.at-end)) p.invariant.1 p.invariant.2 (λ i. (bytes i).fits) c.limit_of.ensures in
+    record { over = f.over }
+
+pub returns : goal.returns
+returns c = let p = c.loop-at in
+    let bytes = c.type_inv.area in
+    begins (fresh c.args.area.now p.value p.at (omega (arith, p.auto.at-end)) p.invariant.1 p.invariant.2 (λ i. (bytes i).fits) c.limit_of.ensures)

@@ -3,10 +3,10 @@ use native.Mathlib.Omega.{arith}
 use Rattle.rfc6386.specs.Decoder.{position}
 use Rattle.bool_decoder.proofs.BoolDecoder.pos.Goals as goal
 
-pub returns-then-self-area : goal.returns-then-self-area
+pub returns-then-doublings-self : goal.returns-then-doublings-self
 unfolding position
-returns-then-self-area c = omega arith
+returns-then-doublings-self c = omega arith
 
-pub returns-else-self-area : goal.returns-else-self-area
+pub returns-else-doublings-self : goal.returns-else-doublings-self
 unfolding position
-returns-else-self-area c = omega arith
+returns-else-doublings-self c = omega arith

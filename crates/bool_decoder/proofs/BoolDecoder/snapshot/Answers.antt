@@ -7,11 +7,11 @@ use Rattle.bool_decoder.proofs.BoolDecoder.snapshot.Goals as goal
 
 pub returns : goal.returns
 unfolding whole count_of
-returns c = let area = c.args.area.now in
-    let d = c.args.self in
-    let v = v_of area d.doublings d.value in
+returns c = let d = c.args.self.now in
+    let area = d.area.now in
+    let w = d.window in
     record {
       range = refl;
-      value = sym (whole_part area c.requires.bytes d.doublings v d.value c.requires.holds);
+      value = sym (whole_part area d.over.bytes w.doublings (v_of area w.doublings w.value) w.value d.over.holds);
       count = refl;
     }
