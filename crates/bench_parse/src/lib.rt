@@ -1,10 +1,8 @@
 // What bench/parse measures: a frame parsed by a fresh parser, in a mode by its number. It is exported for a host program.
 #![tactic(auto)]
 
-ghost use Rattle.std.specs.Prelude.{◌≡◌, map, take};
-ghost use Rattle.std.proofs.Common.{of_z};
-ghost use Rattle.std.specs.Int.{w8};
-ghost use Rattle.bench_sum.specs.Sum.{folded, folds};
+ghost use Rattle.std.specs.Prelude.{◌≡◌, take};
+ghost use Rattle.bench_sum.specs.Sum.{folds};
 ghost use Rattle.vp8_flat.specs.Bytes.{segmentation_bytes, adjustment_bytes};
 ghost use Rattle.vp8_records.specs.Mode.{mode_of};
 ghost use Rattle.vp8_records.specs.Start.{fresh};
@@ -13,31 +11,12 @@ ghost use Rattle.vp8_flat.specs.Numbers.{front_numbers};
 ghost use Rattle.bench_parse.specs.Numbers.{coefficient_at, motion_at, sample};
 ghost use Rattle.bench_parse.specs.Numbers.{back_numbers, header_numbers, kept_numbers, sum_of};
 
-use bench_sum::{bytes, fold, words};
-use vp8_flat::{bit, byte_of};
+use bench_sum::numbers;
+use vp8_flat::bit;
 use vp8_records::{
     CoeffProbs, Header, MbLfAdjustments, Mode, ModeProbs, MvProbs, Parsed, Parser, Segmentation,
     coeff_index,
 };
-
-fn byte(sum: u64, number: u8) -> u64
-    ensures { result ≡ folded sum number }
-{
-    fold(sum, number as u64)
-}
-
-// Signed numbers, each as its two's complement byte.
-fn ints(sum: u64, numbers: [i8; 4]) -> u64
-    ensures { result ≡ folds sum (map (of_z w8) numbers) }
-{
-    let mut all = sum;
-    let mut i = 0;
-    while i < 4 {
-        all = byte(all, byte_of(numbers[i]));
-        i += 1;
-    }
-    all
-}
 
 fn segmentation(sum: u64, s: Segmentation) -> u64
     ensures { result ≡ folds sum (segmentation_bytes s) }
@@ -51,7 +30,8 @@ fn segmentation(sum: u64, s: Segmentation) -> u64
     let quantizers = s.quantizer_update_value;
     let levels = s.lf_update_value;
     let probs = s.segment_prob;
-    bytes(ints(ints(bytes(sum, &flags), quantizers), levels), &probs)
+    let signed = numbers(numbers(numbers(sum, &flags), &quantizers), &levels);
+    numbers(signed, &probs)
 }
 
 fn adjustments(sum: u64, a: MbLfAdjustments) -> u64
@@ -63,7 +43,7 @@ fn adjustments(sum: u64, a: MbLfAdjustments) -> u64
     ];
     let frames = a.ref_frame_delta;
     let modes = a.mb_mode_delta;
-    ints(ints(bytes(sum, &flags), frames), modes)
+    numbers(numbers(numbers(sum, &flags), &frames), &modes)
 }
 
 // One probability, at a place that only the frame tells, so that none can be left out.
@@ -93,14 +73,14 @@ fn probs(sum: u64, c: CoeffProbs, m: MvProbs, modes: ModeProbs, place: u32) -> u
     let luma = modes.intra_16x16_prob;
     let chroma = modes.intra_chroma_prob;
     let picked = [coefficient(c, place), motion(m, place)];
-    bytes(bytes(bytes(sum, &picked), &luma), &chroma)
+    numbers(numbers(numbers(sum, &picked), &luma), &chroma)
 }
 
 // The snapshot and the position.
 fn end(sum: u64, tail: [u32; 8]) -> u64
     ensures { result ≡ folds sum (take 4 tail) }
 {
-    words(sum, &tail[..4])
+    numbers(sum, &tail[..4])
 }
 
 fn front(sum: u64, h: Header) -> u64
@@ -110,7 +90,7 @@ fn front(sum: u64, h: Header) -> u64
     let sizes = h.partition_size;
     let indices = h.quant_indices;
     let quantizers = vp8_flat::header::quantizers(indices);
-    words(words(words(sum, &shape), &sizes), &quantizers)
+    numbers(numbers(numbers(sum, &shape), &sizes), &quantizers)
 }
 
 fn back(sum: u64, h: Header) -> u64
@@ -118,17 +98,17 @@ fn back(sum: u64, h: Header) -> u64
 {
     let flags = vp8_flat::header::flags(h);
     let tail = vp8_flat::header::tail(h);
-    end(words(sum, &flags), tail)
+    end(numbers(sum, &flags), tail)
 }
 
 fn header(sum: u64, h: Header) -> u64
     ensures { result ≡ folds sum (header_numbers h) }
 {
-    let numbers = back(front(sum, h), h);
+    let fields = back(front(sum, h), h);
     let coeff_prob = h.coeff_prob;
     let mv_prob = h.mv_prob;
     let mode_probs = h.mode_probs;
-    probs(numbers, coeff_prob, mv_prob, mode_probs, h.header_size)
+    probs(fields, coeff_prob, mv_prob, mode_probs, h.header_size)
 }
 
 fn kept(sum: u64, p: Parser, place: u32) -> u64

@@ -6,6 +6,6 @@ use Rattle.bench_sum.proofs.Folds.{then}
 use Rattle.bench_parse.proofs.back.Goals as goal
 
 pub returns : goal.returns
-returns c = let flags = c.words.ensures ∙ ap (folds _) c.flags-flags.ensures in
-    let tail = c.end.ensures ∙ ap (λ t. folds c.words.result (take 4 t)) c.tail-tail.ensures in
+returns c = let flags = c.numbers.ensures ∙ ap (folds _) c.flags-flags.ensures in
+    let tail = c.end.ensures ∙ ap (λ t. folds c.numbers.result (take 4 t)) c.tail-tail.ensures in
     then _ _ _ flags tail

@@ -5,6 +5,6 @@ use Rattle.bench_sum.proofs.Folds.{then}
 use Rattle.bench_parse.proofs.front.Goals as goal
 
 pub returns : goal.returns
-returns c = let shape = c.words.ensures ∙ ap (folds _) c.shape-shape.ensures in
-    let quant = c.words-3.ensures ∙ ap (folds _) c.quantizers-quantizers.ensures in
-    then _ _ _ shape (then _ _ _ c.words-2.ensures quant)
+returns c = let shape = c.numbers.ensures ∙ ap (folds _) c.shape-shape.ensures in
+    let quant = c.numbers-3.ensures ∙ ap (folds _) c.quantizers-quantizers.ensures in
+    then _ _ _ shape (then _ _ _ c.numbers-2.ensures quant)

@@ -7,7 +7,7 @@ use Rattle.bench_parse.proofs.segmentation.Goals as goal
 
 pub returns : goal.returns
 returns c = let flags =
-    c.bytes.ensures
+    c.numbers.ensures
     ∙ ap (folds _) (λ i. c.bit.ensures i ∷ c.bit-2.ensures i ∷ c.bit-3.ensures i ∷ c.bit-4.ensures i ∷ []) in
-    let levels = then _ _ _ c.ints-2.ensures c.bytes-2.ensures in
-    then _ _ _ flags (then _ _ _ c.ints.ensures levels)
+    let levels = then _ _ _ c.numbers-signed.ensures c.numbers-3.ensures in
+    then _ _ _ flags (then _ _ _ c.numbers-2.ensures levels)

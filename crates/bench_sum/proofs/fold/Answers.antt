@@ -15,4 +15,4 @@ rotates x h = ap (λ (k : ℕ). bit_or k (x / 2 ^ 59)) (up x) ∙ or_shifted (x 
 
 pub returns : goal.returns
 unfolding folded
-returns c = ap (λ (k : ℕ). bit_xor k c.args.number) (rotates c.args.sum c.ranges.sum.fits)
+returns c = ap (λ (k : ℕ). bit_xor k c.args.number) (c.rotate_left.ensures ∙ rotates c.args.sum c.ranges.sum.fits)
