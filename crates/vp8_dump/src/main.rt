@@ -3,133 +3,78 @@
 // a line that says what is wrong, and ends the run.
 #![tactic(auto)]
 
+ghost use Rattle.std.specs.Prelude.{IfOk, IfSome};
+ghost use Rattle.vp8_show.specs.Input.{IsFrameIn};
+
+use std::io;
 use std::io::Read;
 use vp8_records::{Mode, Parser};
-use vp8_show::input::Came;
+use vp8_show::input;
+use vp8_show::input::{Fault, Record};
 
-// The parser, the mode, whether the next frame is only looked at, and whether to go on.
+// The parser, the mode, and whether the next frame is only looked at.
 #[derive(Clone, Copy)]
 struct Run {
     parser: Parser,
     mode: Mode,
     looks: bool,
-    more: bool,
 }
 
-fn fresh(mode: Mode, looks: bool) -> Run {
-    let parser = Parser::new();
-    Run {
-        parser,
-        mode,
-        looks,
-        more: true,
-    }
-}
-
-fn ended(run: Run) -> Run {
-    let mut last = run;
-    last.more = false;
-    last
-}
-
-fn wrong(rt: &impl Print, run: Run, word: &[u8]) -> Run {
-    lines::say(rt, word);
-    ended(run)
-}
-
-// The text as a line; false where not all could be written.
-fn line(rt: &impl Print, out: &mut [u8], end: usize) -> bool {
-    let after = text::byte(out, end, b'\n');
-    lines::show(rt, out, after)
-}
-
-// A frame and its line.
-fn frame(rt: &impl Print, run: Run, bytes: &[u8], out: &mut [u8]) -> Run {
-    let mode = run.mode;
-    let parsed = vp8_parser::parse_in(run.parser, bytes, mode);
-    let end = vp8_show::dump::line(out, 0, parsed);
-    let more = line(rt, out, end);
-    let parser = parsed.parser;
-    Run {
-        parser,
-        mode,
-        looks: false,
-        more,
-    }
-}
-
-// A frame that is only looked at, and its line.
-fn look(rt: &impl Print, run: Run, bytes: &[u8], out: &mut [u8]) -> Run {
-    let end = vp8_show::dump::look(out, 0, vp8_parser::peek(bytes));
-    let mut after = run;
-    after.looks = false;
-    after.more = line(rt, out, end);
-    after
-}
-
-// From here on in this mode.
-fn switched(run: Run, mode: Mode) -> Run {
-    let parser = run.parser;
-    Run {
-        parser,
-        mode,
-        looks: run.looks,
-        more: true,
-    }
-}
-
-// The next frame is only looked at.
-fn looking(run: Run) -> Run {
-    let mut after = run;
-    after.looks = true;
-    after
-}
-
-fn record(
-    rt: &impl Print,
-    input: &mut impl Read,
-    run: Run,
-    buffer: &mut [u8],
-    out: &mut [u8],
-) -> Run {
-    let mode = run.mode;
-    let taken = vp8_show::input::take(input, buffer);
-    let came = taken.came;
-    let count = taken.count;
-    match came {
-        Came::Frame => {
-            if run.looks {
-                return look(rt, run, &buffer[..count], out);
-            }
-            frame(rt, run, &buffer[..count], out)
+impl Run {
+    fn new() -> Run {
+        Run {
+            parser: Parser::new(),
+            mode: Mode::Rust,
+            looks: false,
         }
-        Came::Fresh => fresh(mode, run.looks),
-        Came::In(other) => switched(run, other),
-        Came::Look => looking(run),
-        Came::End => {
-            if run.looks {
-                return wrong(rt, run, b"cut short");
-            }
-            ended(run)
+    }
+
+    // The next record; none where the input ends, which it may not before a frame that is to be looked at.
+    fn next(&self, input: &mut impl Read, buffer: &mut [u8]) -> Result<Option<Record>, Fault>
+        ensures { IfOk result (λ next. IfSome next (IsFrameIn buffer.new)) }
+    {
+        let record = input::take(input, buffer)?;
+        if self.looks && record.is_none() {
+            return Err(Fault::CutShort);
         }
-        Came::TooLarge => wrong(rt, run, b"too large"),
-        Came::CutShort => wrong(rt, run, b"cut short"),
+        Ok(record)
+    }
+
+    // A frame, and where its line ends.
+    fn frame(&mut self, bytes: &[u8], out: &mut [u8]) -> usize {
+        if self.looks {
+            self.looks = false;
+            return vp8_show::dump::look(out, 0, vp8_parser::peek(bytes));
+        }
+        let parsed = vp8_parser::parse_in(self.parser, bytes, self.mode);
+        self.parser = parsed.parser;
+        vp8_show::dump::line(out, 0, parsed)
     }
 }
 
-// Nothing says that the input ends, so the loop counts down from a number that no run uses up.
-fn records(rt: &impl Print, input: &mut impl Read, buffer: &mut [u8], out: &mut [u8]) {
-    let mut run = fresh(Mode::Rust, false);
-    let mut left = u64::MAX;
-    while left > 0 && run.more {
-        run = record(rt, input, run, buffer, out);
-        left -= 1;
-    }
-}
-
-fn main(rt: HostRuntime) {
-    let mut input = rt.reader();
+// Nothing says that the input ends, so the loop has a number of turns that no run uses up.
+fn records(rt: &impl Print, input: &mut impl Read) -> io::Result<()> {
+    let mut run = Run::new();
     let mut buffer = [0u8; 65536];
     let mut out = [0u8; 8192];
-    records(&rt, &mut input, &mut buffer, &mut out);
+    for _ in 0..u64::MAX {
+        match run.next(input, &mut buffer) {
+            Ok(Some(Record::Frame(count))) => {
+                let end = run.frame(&buffer[..count], &mut out);
+                let after = text::byte(&mut out, end, b'\n');
+                lines::show(rt, &out, after)?;
+            }
+            Ok(Some(Record::Fresh)) => run.parser = Parser::new(),
+            Ok(Some(Record::In(mode))) => run.mode = mode,
+            Ok(Some(Record::Look)) => run.looks = true,
+            Ok(None) => return Ok(()),
+            Err(fault) => return rt.println(fault),
+        }
+    }
+    Ok(())
+}
+
+// A line that cannot be written ends the run, and the status stays 0.
+fn main(rt: HostRuntime) {
+    let _ = records(&rt, &mut rt.reader());
 }

@@ -1,88 +1,57 @@
-// The stored list, read piece by piece (tests/fixed/README.md). An answer of false means that the list is cut short or has an index that
-// is too large. What stands in the lent arrays afterwards is what the C library read, which no contract can name.
-use lines::Number;
+// The stored list, read piece by piece (tests/fixed/README.md). What was read is what the C library read, which no contract can name.
+use lines::CutShort;
 use std::io::Read;
 
-fn number(input: &mut impl Read, width: u8) -> Number {
-    if width == 1 {
-        return lines::take_byte(input);
-    }
-    if width == 2 {
-        return lines::take_le2(input);
-    }
-    lines::take_le4(input)
+// What is wrong with a piece.
+#[derive(Clone, Copy, PartialEq, Eq, Debug)]
+pub enum Fault {
+    // The list ends within it, or before it.
+    CutShort,
+    // It changes a number past the last.
+    Index,
 }
 
-// One number to its place.
-fn place(input: &mut impl Read, to: &mut [u32], i: usize, width: u8) -> bool {
-    if to.len() <= i {
-        return false;
-    }
-    match number(input, width) {
-        Number::Is(n) => {
-            to[i] = n;
-            true
-        }
-        Number::End => false,
-        Number::Short => false,
+impl From<CutShort> for Fault {
+    fn from(_: CutShort) -> Fault {
+        Fault::CutShort
     }
 }
 
-// Numbers of 1, 2 or 4 bytes, as the widths say.
-pub fn numbers(input: &mut impl Read, to: &mut [u32], widths: &[u8]) -> bool {
-    let mut i = 0;
-    while i < widths.len() {
-        if !place(input, to, i, widths[i]) {
-            return false;
-        }
-        i += 1;
-    }
-    true
+// A number of 1, 2 or 4 bytes.
+fn number(input: &mut impl Read, width: u8) -> Result<u32, CutShort> {
+    let number = match width {
+        1 => lines::take_byte(input).map(u32::from),
+        2 => lines::take_le2(input)?.map(u32::from),
+        _ => lines::take_le4(input)?,
+    };
+    number.ok_or(CutShort)
 }
 
-fn low(n: u32) -> u8 {
-    (n % 256) as u8
-}
-
-fn change_at(input: &mut impl Read, on: &mut [u8], at: usize) -> bool {
-    if on.len() <= at {
-        return false;
+// Numbers of these widths.
+pub fn numbers<const N: usize>(
+    input: &mut impl Read,
+    widths: &[u8; N],
+) -> Result<[u32; N], CutShort> {
+    let mut numbers = [0; N];
+    for (to, width) in numbers.iter_mut().zip(widths) {
+        *to = number(input, *width)?;
     }
-    match lines::take_byte(input) {
-        Number::Is(n) => {
-            on[at] = low(n);
-            true
-        }
-        Number::End => false,
-        Number::Short => false,
-    }
+    Ok(numbers)
 }
 
 // An index and the new number there.
-fn change(input: &mut impl Read, on: &mut [u8]) -> bool {
-    match lines::take_le2(input) {
-        Number::Is(at) => change_at(input, on, at as usize),
-        Number::End => false,
-        Number::Short => false,
-    }
-}
-
-fn changes(input: &mut impl Read, on: &mut [u8], count: u32) -> bool {
-    let mut left = count;
-    while left > 0 {
-        if !change(input, on) {
-            return false;
-        }
-        left -= 1;
-    }
-    true
+fn change(input: &mut impl Read, on: &mut [u8]) -> Result<(), Fault> {
+    let at = lines::take_le2(input)?.ok_or(CutShort)?;
+    let place = on.get_mut(usize::from(at)).ok_or(Fault::Index)?;
+    *place = lines::take_byte(input).ok_or(CutShort)?;
+    Ok(())
 }
 
 // A count, and that many changes.
-pub fn patch(input: &mut impl Read, on: &mut [u8]) -> bool {
-    match lines::take_le2(input) {
-        Number::Is(count) => changes(input, on, count),
-        Number::End => false,
-        Number::Short => false,
+pub fn patch(input: &mut impl Read, on: &mut [u8]) -> Result<(), Fault> {
+    let count = lines::take_le2(input)?.ok_or(CutShort)?;
+    for _ in 0..count {
+        change(input, on)?;
     }
+    Ok(())
 }

@@ -1,92 +1,86 @@
 // A record from standard input: a 4-byte little-endian length (at most 65,536) and that many bytes of a frame. With nothing after it, the
 // length FFFFFFFF asks for a fresh parser, FFFFFFFE and FFFFFFFD that frames be read in the standard's mode and in the Rust's from here
 // on, and FFFFFFFC that the next frame be only looked at.
-ghost use Rattle.std.specs.Prelude.{◌≡◌};
+ghost use Rattle.std.specs.Prelude.{◌≡◌, IfOk, IfSome};
 ghost use Rattle.lines.specs.Read.{IsPrefixLen};
+ghost use Rattle.vp8_show.specs.Input.{IsFrameIn};
 
-use lines::Number;
+use lines::CutShort;
+use std::fmt;
 use std::io::Read;
 use vp8_records::Mode;
 
-// How the input goes on.
+// The lengths that are none.
+const FRESH: u32 = 0xffffffff;
+
+const STANDARD: u32 = 0xfffffffe;
+
+const RUST: u32 = 0xfffffffd;
+
+const LOOK: u32 = 0xfffffffc;
+
+// What a record asks for.
 #[derive(Clone, Copy)]
-pub enum Came {
-    Frame,
+pub enum Record {
+    // To parse a frame of so many bytes, or to look at it.
+    Frame(usize),
+    // A fresh parser.
     Fresh,
+    // Frames read in this mode from here on.
     In(Mode),
+    // That the next frame be only looked at.
     Look,
-    End,
+}
+
+// What is wrong with a record.
+#[derive(Clone, Copy, PartialEq, Eq, Debug)]
+pub enum Fault {
+    // A frame above the limit.
     TooLarge,
+    // The input ends within it.
     CutShort,
 }
 
-// How it came, and how many bytes of a frame there are.
-#[derive(Clone, Copy)]
-pub struct Record {
-    pub came: Came,
-    pub count: usize,
-}
-
-fn take_bytes(input: &mut impl Read, frame: &mut [u8], wanted: usize) -> Record
-    ensures { IsPrefixLen result.count frame.new }
-{
-    let got = lines::take(input, frame, wanted);
-    if got < wanted {
-        return Record {
-            came: Came::CutShort,
-            count: got,
-        };
-    }
-    Record {
-        came: Came::Frame,
-        count: got,
+impl fmt::Display for Fault {
+    fn fmt<W: fmt::Write>(&self, f: &mut fmt::Formatter<W>) -> fmt::Result {
+        f.write_str(match self {
+            Fault::TooLarge => "too large",
+            Fault::CutShort => "cut short",
+        })
     }
 }
 
-// The frame of a given size.
-pub fn take_frame(input: &mut impl Read, frame: &mut [u8], size: u32) -> Record
-    ensures { IsPrefixLen result.count frame.new }
+impl From<CutShort> for Fault {
+    fn from(_: CutShort) -> Fault {
+        Fault::CutShort
+    }
+}
+
+// The frame of a given size, to the start of the buffer; how many bytes it has.
+pub fn take_frame(input: &mut impl Read, frame: &mut [u8], size: u32) -> Result<usize, Fault>
+    ensures whole { IfOk result (λ count. count ≡ size) }
+    ensures counts { IfOk result (λ count. IsPrefixLen count frame.new) }
 {
     if 65536 < size {
-        return Record {
-            came: Came::TooLarge,
-            count: 0,
-        };
+        return Err(Fault::TooLarge);
     }
-    take_bytes(input, frame, size as usize)
+    let wanted = size as usize;
+    lines::take_exact(input, frame, wanted)?;
+    Ok(wanted)
 }
 
-// A length that is none.
-fn word(size: u32) -> Record
-    ensures { result.count ≡ 0 }
+// The next record, its frame to the start of the buffer; none where the input ends.
+pub fn take(input: &mut impl Read, frame: &mut [u8]) -> Result<Option<Record>, Fault>
+    ensures { IfOk result (λ next. IfSome next (IsFrameIn frame.new)) }
 {
-    let came = match size {
-        0xffffffff => Came::Fresh,
-        0xfffffffe => Came::In(Mode::Standard),
-        0xfffffffd => Came::In(Mode::Rust),
-        _ => Came::Look,
+    let Some(size) = lines::take_le4(input)? else {
+        return Ok(None);
     };
-    Record { came, count: 0 }
-}
-
-// The next record, its frame to the start of the buffer.
-pub fn take(input: &mut impl Read, frame: &mut [u8]) -> Record
-    ensures { IsPrefixLen result.count frame.new }
-{
-    match lines::take_le4(input) {
-        Number::Is(size) => {
-            if 0xfffffffc <= size {
-                return word(size);
-            }
-            take_frame(input, frame, size)
-        }
-        Number::End => Record {
-            came: Came::End,
-            count: 0,
-        },
-        Number::Short => Record {
-            came: Came::CutShort,
-            count: 0,
-        },
-    }
+    Ok(Some(match size {
+        FRESH => Record::Fresh,
+        STANDARD => Record::In(Mode::Standard),
+        RUST => Record::In(Mode::Rust),
+        LOOK => Record::Look,
+        _ => Record::Frame(take_frame(input, frame, size)?),
+    }))
 }

@@ -103,7 +103,7 @@ pub fn answer(out: &mut [u8], at: usize, parsed: Parsed) -> usize
 pub fn tell(rt: &impl Print, parsed: Parsed) {
     let mut out = [0u8; 1024];
     let end = answer(&mut out, 0, parsed);
-    lines::show(rt, &out, end);
+    let _ = lines::show(rt, &out, end);
 }
 
 // The lines of an answer, of which there are under 1,024 bytes, each with an index and a space in front; under 2,048 bytes.
@@ -119,7 +119,7 @@ pub fn numbered(out: &mut [u8], at: usize, index: u64, parsed: Parsed) -> usize
 pub fn tell_numbered(rt: &impl Print, index: u64, parsed: Parsed) {
     let mut out = [0u8; 2048];
     let end = numbered(&mut out, 0, index, parsed);
-    lines::show(rt, &out, end);
+    let _ = lines::show(rt, &out, end);
 }
 
 // The line of a look; under 256 bytes.
