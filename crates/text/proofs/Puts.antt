@@ -6,7 +6,9 @@ use native.Mathlib.Decide.{dec_le}
 use native.Mathlib.Nat.{add-zero}
 use native.Mathlib.Numerals.{add-one}
 use mathlib.Core.Path.{◌≡◌, refl, ap, sym, ◌∙◌}
+use mathlib.Core.Bool.{Bool, true, false, cond}
 use mathlib.Core.List.{List, [], ◌∷◌, ◌++◌, append-nil}
+use lib.Dec.{ltb}
 use lib.ListN.{length, get_or, take, set, length-set}
 use lib.Seq.{take-nil, take-suc, take-suc-set, append_snoc}
 use borrow.Author.Tests.{lt-ltb, le-ltb}
@@ -63,6 +65,16 @@ hex_turn t u v w xs i h e d f =
       hex_append (take i xs) (get_or xs i 0 ∷ []),
       puts_append t (hex_of (take i xs)) (hex_of (get_or xs i 0 ∷ [])),
     )
+
+-- what is put takes no room from the buffer
+sized : (b : Bool) (t : Text) (n x : ℕ) → length (cond b (text (set t.buffer t.count x) n) t).buffer ≡ length t.buffer
+sized true t n x = length-set t.buffer t.count x
+sized false t n x = refl
+
+pub length-puts : (t : Text) (xs : List ℕ) → length (puts t xs).buffer ≡ length t.buffer
+unfolding put puts
+length-puts t [] = refl
+length-puts t (x ∷ xs) = length-puts (put t x) xs ∙ sized (ltb t.count (length t.buffer)) t (t.count + 1) x
 
 -- where there is room for all of it, the text is the old one and the piece
 pub fits : (buffer : List ℕ) (n : ℕ) (xs : List ℕ) → n + length xs ≤ length buffer

@@ -2,7 +2,7 @@
 ghost use Rattle.std.specs.Prelude.{◌≡◌, ◌≤◌};
 ghost use Rattle.vp8_flat.specs.Numbers.{partition_count, shape_of, quant_of, flags_of, tail_of, look_of, carried_of};
 
-use crate::{bit, byte_of};
+use crate::byte_of;
 use vp8_records::{Header, Look, Outcome, QuantIndices};
 
 // What a refusal carries: 2 its code, 3 the end and the length, 6 the length; else zeros. The number is 0 where the frame is accepted.
@@ -68,39 +68,27 @@ pub fn partitions(log2: u8) -> u32
     }
 }
 
-fn wide(n: u8) -> u32
-    ensures { result ≡ n }
-{
-    n as u32
-}
-
-fn wide16(n: u16) -> u32
-    ensures { result ≡ n }
-{
-    n as u32
-}
-
 // The tag, the sizes, the filter and the partitions.
 pub fn shape(h: Header) -> [u32; 16]
     ensures { result ≡ shape_of h }
 {
     [
-        wide(bit(h.key_frame)),
-        wide(h.version),
-        wide(bit(h.show_frame)),
-        wide(h.data_chunk_size),
+        u32::from(h.key_frame),
+        u32::from(h.version),
+        u32::from(h.show_frame),
+        u32::from(h.data_chunk_size),
         h.first_part_size,
-        wide16(h.width),
-        wide16(h.height),
-        wide(h.horiz_scale_code),
-        wide(h.vert_scale_code),
-        wide(bit(h.color_space)),
-        wide(bit(h.clamping_type)),
-        wide(bit(h.filter_type)),
-        wide(h.loop_filter_level),
-        wide(h.sharpness_level),
+        u32::from(h.width),
+        u32::from(h.height),
+        u32::from(h.horiz_scale_code),
+        u32::from(h.vert_scale_code),
+        u32::from(h.color_space),
+        u32::from(h.clamping_type),
+        u32::from(h.filter_type),
+        u32::from(h.loop_filter_level),
+        u32::from(h.sharpness_level),
         partitions(h.log2_nbr_of_dct_partitions),
-        wide(h.log2_nbr_of_dct_partitions),
+        u32::from(h.log2_nbr_of_dct_partitions),
     ]
 }
 
@@ -109,12 +97,12 @@ pub fn quantizers(q: QuantIndices) -> [u32; 6]
     ensures { result ≡ quant_of q }
 {
     [
-        wide(q.y_ac_qi),
-        wide(byte_of(q.y_dc_delta)),
-        wide(byte_of(q.y2_dc_delta)),
-        wide(byte_of(q.y2_ac_delta)),
-        wide(byte_of(q.uv_dc_delta)),
-        wide(byte_of(q.uv_ac_delta)),
+        u32::from(q.y_ac_qi),
+        u32::from(byte_of(q.y_dc_delta)),
+        u32::from(byte_of(q.y2_dc_delta)),
+        u32::from(byte_of(q.y2_ac_delta)),
+        u32::from(byte_of(q.uv_dc_delta)),
+        u32::from(byte_of(q.uv_ac_delta)),
     ]
 }
 
@@ -123,19 +111,19 @@ pub fn flags(h: Header) -> [u32; 13]
     ensures { result ≡ flags_of h }
 {
     [
-        wide(bit(h.refresh_entropy_probs)),
-        wide(bit(h.refresh_last)),
-        wide(bit(h.refresh_golden_frame)),
-        wide(bit(h.refresh_alternate_frame)),
-        wide(h.copy_buffer_to_golden),
-        wide(h.copy_buffer_to_alternate),
-        wide(bit(h.sign_bias_golden)),
-        wide(bit(h.sign_bias_alternate)),
-        wide(bit(h.mb_no_coeff_skip)),
-        wide(h.prob_skip_false),
-        wide(h.prob_intra),
-        wide(h.prob_last),
-        wide(h.prob_golden),
+        u32::from(h.refresh_entropy_probs),
+        u32::from(h.refresh_last),
+        u32::from(h.refresh_golden_frame),
+        u32::from(h.refresh_alternate_frame),
+        u32::from(h.copy_buffer_to_golden),
+        u32::from(h.copy_buffer_to_alternate),
+        u32::from(h.sign_bias_golden),
+        u32::from(h.sign_bias_alternate),
+        u32::from(h.mb_no_coeff_skip),
+        u32::from(h.prob_skip_false),
+        u32::from(h.prob_intra),
+        u32::from(h.prob_last),
+        u32::from(h.prob_golden),
     ]
 }
 
@@ -144,13 +132,13 @@ pub fn tail(h: Header) -> [u32; 8]
     ensures { result ≡ tail_of h }
 {
     [
-        wide(h.bd_range),
-        wide(h.bd_value),
-        wide(h.bd_count),
+        u32::from(h.bd_range),
+        u32::from(h.bd_value),
+        u32::from(h.bd_count),
         h.header_size,
         h.bools,
-        wide16(h.mb_cols),
-        wide16(h.mb_rows),
+        u32::from(h.mb_cols),
+        u32::from(h.mb_rows),
         h.past,
     ]
 }
@@ -160,13 +148,13 @@ pub fn look(l: Look) -> [u32; 8]
     ensures { result ≡ look_of l }
 {
     [
-        wide(bit(l.key_frame)),
-        wide(l.version),
-        wide(bit(l.show_frame)),
+        u32::from(l.key_frame),
+        u32::from(l.version),
+        u32::from(l.show_frame),
         l.first_part_size,
-        wide16(l.width),
-        wide16(l.height),
-        wide(l.horiz_scale_code),
-        wide(l.vert_scale_code),
+        u32::from(l.width),
+        u32::from(l.height),
+        u32::from(l.horiz_scale_code),
+        u32::from(l.vert_scale_code),
     ]
 }

@@ -1,5 +1,5 @@
 // The records as runs: the 1,126 kept numbers of a parser, the probabilities and the numbers of a header, in the order of parser.rs.
-// A signed number is its two's complement byte, a flag 0 or 1. The writers put a run into a lent buffer, as `text` does.
+// A signed number is its two's complement byte, a flag 0 or 1. The writers put a run after what is in a `Text`.
 #![tactic(auto)]
 
 pub mod header;
@@ -7,132 +7,96 @@ pub mod header;
 ghost use Rattle.std.specs.Prelude.{◌≡◌, map};
 ghost use Rattle.std.proofs.Common.{of_z};
 ghost use Rattle.std.specs.Int.{w8};
-ghost use Rattle.text.specs.Text.{text, puts};
-ghost use Rattle.vp8_records.specs.Layout.{flat_coeffs, flat_mv_context, flat_mv};
+ghost use Rattle.text.specs.Text.{puts};
+ghost use Rattle.vp8_records.specs.Layout.{flat_coeffs, flat_mv};
 ghost use Rattle.vp8_flat.specs.Bytes.{bit_of, flat_modes, segmentation_bytes, adjustment_bytes, kept_bytes};
 
-use vp8_records::{
-    CoeffProbs, MbLfAdjustments, ModeProbs, MvContext, MvProbs, Parser, Segmentation,
-};
+use text::Text;
+use vp8_records::{CoeffProbs, MbLfAdjustments, ModeProbs, MvProbs, Parser, Segmentation};
 
 // A flag as 0 or 1.
 pub fn bit(b: bool) -> u8
     ensures { result ≡ bit_of b }
 {
-    if b { 1 } else { 0 }
+    u8::from(b)
 }
 
 // The two's complement byte.
 pub fn byte_of(x: i8) -> u8
     ensures { result ≡ of_z w8 x }
 {
-    if x < 0 {
-        let m = (-1 - x) as u8;
-        255 - m
-    } else {
-        x as u8
-    }
+    x.cast_unsigned()
 }
 
-fn put_signed(out: &mut [u8], at: usize, v: [i8; 4]) -> usize
-    ensures { text out.new result ≡ puts (text out.old at) (map (of_z w8) v) }
+fn put_signed<const N: usize>(out: &mut Text<N>, v: [i8; 4])
+    ensures { out.new ≡ puts out.old (map (of_z w8) v) }
 {
-    let mut to = at;
-    let mut i = 0;
-    while i < 4 {
-        to = text::byte(out, to, byte_of(v[i]));
-        i += 1;
+    for x in v {
+        out.byte(byte_of(x));
     }
-    to
-}
-
-fn put_context(out: &mut [u8], at: usize, context: MvContext) -> usize
-    ensures { text out.new result ≡ puts (text out.old at) (flat_mv_context context) }
-{
-    let v = context.v;
-    text::bytes(out, at, &v)
 }
 
 // The 38 motion probabilities (section 17.2).
-pub fn put_motion(out: &mut [u8], at: usize, motion: MvProbs) -> usize
-    ensures { text out.new result ≡ puts (text out.old at) (flat_mv motion) }
+pub fn put_motion<const N: usize>(out: &mut Text<N>, motion: MvProbs)
+    ensures { out.new ≡ puts out.old (flat_mv motion) }
 {
-    let mut to = at;
-    let mut i = 0;
-    while i < 2 {
-        to = put_context(out, to, motion.v[i]);
-        i += 1;
+    for context in motion.v {
+        out.bytes(&context.v);
     }
-    to
 }
 
 // The seven mode probabilities (section 16.2).
-pub fn put_modes(out: &mut [u8], at: usize, modes: ModeProbs) -> usize
-    ensures { text out.new result ≡ puts (text out.old at) (flat_modes modes) }
+#[tactic(auto, using(text::proofs::Puts::puts_append, text::proofs::Puts::puts_cons))]
+pub fn put_modes<const N: usize>(out: &mut Text<N>, modes: ModeProbs)
+    ensures { out.new ≡ puts out.old (flat_modes modes) }
 {
-    let luma = modes.intra_16x16_prob;
-    let chroma = modes.intra_chroma_prob;
-    let to = text::bytes(out, at, &luma);
-    text::bytes(out, to, &chroma)
+    out.bytes(&modes.intra_16x16_prob);
+    out.bytes(&modes.intra_chroma_prob);
 }
 
 // Segmentation (section 9.3).
-pub fn put_segmentation(out: &mut [u8], at: usize, s: Segmentation) -> usize
-    ensures { text out.new result ≡ puts (text out.old at) (segmentation_bytes s) }
+#[tactic(auto, using(text::proofs::Puts::puts_append, text::proofs::Puts::puts_cons))]
+pub fn put_segmentation<const N: usize>(out: &mut Text<N>, s: Segmentation)
+    ensures { out.new ≡ puts out.old (segmentation_bytes s) }
 {
-    let flags = [
-        bit(s.segmentation_enabled),
-        bit(s.update_mb_segmentation_map),
-        bit(s.update_segment_feature_data),
-        bit(s.segment_feature_mode),
-    ];
-    let quantizers = s.quantizer_update_value;
-    let levels = s.lf_update_value;
-    let probs = s.segment_prob;
-    let to = text::bytes(out, at, &flags);
-    let to = put_signed(out, to, quantizers);
-    let to = put_signed(out, to, levels);
-    text::bytes(out, to, &probs)
+    out.byte(bit(s.segmentation_enabled));
+    out.byte(bit(s.update_mb_segmentation_map));
+    out.byte(bit(s.update_segment_feature_data));
+    out.byte(bit(s.segment_feature_mode));
+    put_signed(out, s.quantizer_update_value);
+    put_signed(out, s.lf_update_value);
+    out.bytes(&s.segment_prob);
 }
 
 // The filter's adjustments (section 9.4).
-pub fn put_adjustments(out: &mut [u8], at: usize, a: MbLfAdjustments) -> usize
-    ensures { text out.new result ≡ puts (text out.old at) (adjustment_bytes a) }
+#[tactic(auto, using(text::proofs::Puts::puts_append, text::proofs::Puts::puts_cons))]
+pub fn put_adjustments<const N: usize>(out: &mut Text<N>, a: MbLfAdjustments)
+    ensures { out.new ≡ puts out.old (adjustment_bytes a) }
 {
-    let flags = [
-        bit(a.loop_filter_adj_enable),
-        bit(a.mode_ref_lf_delta_update),
-    ];
-    let frames = a.ref_frame_delta;
-    let modes = a.mb_mode_delta;
-    let to = text::bytes(out, at, &flags);
-    let to = put_signed(out, to, frames);
-    put_signed(out, to, modes)
+    out.byte(bit(a.loop_filter_adj_enable));
+    out.byte(bit(a.mode_ref_lf_delta_update));
+    put_signed(out, a.ref_frame_delta);
+    put_signed(out, a.mb_mode_delta);
 }
 
 // All kept numbers.
-pub fn put_parser(out: &mut [u8], at: usize, parser: Parser) -> usize
-    ensures { text out.new result ≡ puts (text out.old at) (kept_bytes parser) }
+pub fn put_parser<const N: usize>(out: &mut Text<N>, parser: Parser)
+    ensures { out.new ≡ puts out.old (kept_bytes parser) }
 {
-    let segmentation = parser.segmentation;
-    let adjustments = parser.mb_lf_adjust;
-    let coeffs = parser.coeff_prob.v;
-    let motion = parser.mv_prob;
-    let modes = parser.mode_probs;
-    let to = put_segmentation(out, at, segmentation);
-    let to = put_adjustments(out, to, adjustments);
-    let to = text::bytes(out, to, &coeffs);
-    let to = put_motion(out, to, motion);
-    put_modes(out, to, modes)
+    put_segmentation(out, parser.segmentation);
+    put_adjustments(out, parser.mb_lf_adjust);
+    out.bytes(&parser.coeff_prob.v);
+    put_motion(out, parser.mv_prob);
+    put_modes(out, parser.mode_probs);
 }
 
 // All kept numbers, as an array.
 pub fn kept(parser: Parser) -> [u8; 1126]
     ensures { result ≡ kept_bytes parser }
 {
-    let mut out = [0u8; 1126];
-    put_parser(&mut out, 0, parser);
-    out
+    let mut out = Text::new();
+    put_parser(&mut out, parser);
+    out.into_buffer()
 }
 
 // The coefficient probabilities, as an array.
@@ -146,16 +110,16 @@ pub fn coeffs(c: CoeffProbs) -> [u8; 1056]
 pub fn motion(m: MvProbs) -> [u8; 38]
     ensures { result ≡ flat_mv m }
 {
-    let mut out = [0u8; 38];
-    put_motion(&mut out, 0, m);
-    out
+    let mut out = Text::new();
+    put_motion(&mut out, m);
+    out.into_buffer()
 }
 
 // The mode probabilities, as an array.
 pub fn modes(m: ModeProbs) -> [u8; 7]
     ensures { result ≡ flat_modes m }
 {
-    let mut out = [0u8; 7];
-    put_modes(&mut out, 0, m);
-    out
+    let mut out = Text::new();
+    put_modes(&mut out, m);
+    out.into_buffer()
 }

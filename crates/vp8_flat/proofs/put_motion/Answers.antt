@@ -1,17 +1,13 @@
--- After i turns the rows of the first i are put: the law is `Put` of `Runs`.
-use native.Mathlib.Omega.{arith}
-use mathlib.Core.Path.{◌≡◌}
-use lib.ListN.{length}
+-- After i turns the runs of the first i components are put: `Runs`.
 use borrow.Author.Rules.{rules}
+use Rattle.vp8_records.specs.Layout.{flat_mv_context}
 use Rattle.vp8_records.proofs.Arrays.{length_mapped}
-use Rattle.vp8_flat.proofs.Runs.{begin, turn}
+use Rattle.vp8_flat.proofs.Runs.{joined_nil, joined_turn}
 use Rattle.vp8_flat.proofs.put_motion.Goals as goal
 
-pub loop-i-init : goal.loop-i-init
-loop-i-init c = begin
+pub loop-context-init : goal.loop-context-init
+loop-context-init g c = joined_nil _ _
 
-pub loop-i-preserved : goal.loop-i-preserved
-loop-i-preserved c =
-    let lengths : length c.args.motion.v ≡ 2 = search (rules, length_mapped) in
-    turn _ c.loop-i.invariant (omega (arith, c.loop-i-test.true)) (lengths)
-    c.put_context-to.auto.out c.put_context-to.ensures
+pub loop-context-preserved : goal.loop-context-preserved
+loop-context-preserved g c =
+    joined_turn flat_mv_context _ _ _ _ _ _ (search (rules, length_mapped)) c.loop-context.invariant c.bytes.ensures

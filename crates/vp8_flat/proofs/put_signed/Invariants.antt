@@ -1,13 +1,10 @@
-use Prim.Native.Nat.{◌-◌}
-use mathlib.Core.List.{[], ◌∷◌}
-use lib.IntN.{ℤ}
-use mir.Val.{of_z}
+use mathlib.Core.Path.{◌≡◌}
+use mathlib.Core.List.{map}
+use lib.ListN.{take}
 use mir.Syntax.{w8}
-use Rattle.vp8_flat.proofs.Runs.{Put}
+use mir.Val.{of_z}
+use Rattle.text.specs.Text.{puts}
 use Rattle.vp8_flat.proofs.put_signed.Given as goal
 
-abbrev pub invariant-loop-i : goal.invariant-loop-i
-invariant-loop-i l = Put (λ (z : ℤ). of_z w8 z ∷ []) 4 l.initial.out l.at l.v l.out l.to l.i
-
-abbrev pub decreases-loop-i : goal.decreases-loop-i
-decreases-loop-i l = 4 - l.i
+abbrev pub invariant-loop-x : goal.invariant-loop-x
+invariant-loop-x g l = l.out ≡ puts l.initial.out (map (of_z w8) (take l.x-index l.x-items))
