@@ -82,7 +82,7 @@ pub few_parts : (md : Mode) (key : Bool) → Always FewParts (header md key)
 few_parts md key l s = (header_fits md key l s).log2parts
 
 -- n is 1, 2, 4 or 8
-few_partitions : (x : ℕ) → x < 4 → 2 ^ x ≤ 8
+pub few_partitions : (x : ℕ) → x < 4 → 2 ^ x ≤ 8
 few_partitions x h = pow-le-pow_right {n = 2} (omega arith) {i = x} {j = 3} (omega arith)
 
 -- the parts' lengths by the header of an accepted frame add up to the frame

@@ -1,21 +1,23 @@
 -- What follows a chunk, put together: the sizes by the code's tests, and the answer by the sizes. Each test is known, so it picks.
-use Prim.Native.Nat.{ℕ, ◌+◌, ◌-◌, ◌*◌, ◌≤◌, ◌<◌}
-use mathlib.Core.Path.{◌≡◌, refl, sym, ap, ◌∙◌}
-use mathlib.Core.Bool.{Bool, true, false, true≢false, false≢true}
-use mathlib.Core.Option.{Option, none, some}
-use mathlib.Core.List.{List, [], ◌∷◌, ◌++◌}
-use lib.ListN.{length, drop}
+use Rattle.std.proofs.Common.{◌≡◌, ℕ, ◌+◌, ◌-◌, ◌*◌, ◌^◌, ◌≤◌, ◌<◌, Bool, true, false, List, [], ◌∷◌, ◌++◌, length, drop, refl, sym, ap, ◌∙◌, arith}
+use Rattle.std.proofs.Math.Option.{Option, none, some}
+use native.Mathlib.Nat.{mod-eq_of_lt}
+use lib.Pow.{pow_pos}
 use borrow.Author.Tests.{lt-ltb, le-ltb}
+use Rattle.std.proofs.lemmas.Option.{none-some, same_Some}
+use Rattle.std.specs.Prelude.{Ok, Err, Some, None}
 use Rattle.vp8_records.specs.declared.Mode.{Mode}
 use Rattle.vp8_records.specs.declared.Parser.{Parser}
-use Rattle.vp8_records.specs.declared.Outcome.TheVariants.{InvalidPartitionSize, EmptyArea}
+use Rattle.vp8_records.specs.declared.Refusal.TheVariants.{InvalidPartitionSize, EmptyArea, EndOfHeader}
 use Rattle.vp8_records.specs.Start.{fresh, blank}
 use Rattle.rfc6386.specs.Decoder.{start, bits, pick}
-use Rattle.rfc6386.specs.Frame.{Chunk, Body, follows, coded_sizes, sum, sizes, decoded, headed, body}
-use Rattle.rfc6386.specs.Call.{cleared, reset, base, answer, finish}
+use Rattle.rfc6386.specs.Coded.{Coded}
+use Rattle.rfc6386.specs.Frame.{Chunk, Snapshot, Body, follows, coded_sizes, sum, sizes, decoded, headed, body}
+use Rattle.vp8_records.specs.Length.{partitions_of}
+use Rattle.rfc6386.specs.Call.{probs_of, probs_over, shown, apply, cleared, header_of, reset, base, answer, sized, finish}
 use Rattle.rfc6386.proofs.Accepts.{held_by}
-use Rattle.rfc6386.proofs.Fills.{few_parts}
-use Rattle.vp8_parser.specs.declared.Sizes.{Sizes}
+use Rattle.rfc6386.proofs.Fills.{few_parts, few_partitions}
+use Rattle.vp8_header.specs.Headed.{headed_of}
 use Rattle.vp8_parser.specs.Answers.{sizes_of, sized_of}
 use Rattle.vp8_parser.proofs.Opens.{yes_test, no_test, body_beyond, body_empty, body_read}
 
@@ -35,22 +37,36 @@ module _ (n : ℕ) (area : List ℕ) (first : ℕ) where
   unfolding sizes
   sizes_are h g = no_test _ _ (le-ltb _ _ h) ∙ no_test _ _ (le-ltb _ _ g)
 
--- sizes that the code found, and sizes that it did not
-pub found : (x : Option (List ℕ)) (r : Sizes) → r ≡ sizes_of x → r.ok ≡ true → (ss : List ℕ) × (x ≡ some ss)
-found none r e h = absurd (false≢true (sym (ap (λ (s : Sizes). s.ok) e) ∙ h))
-found (some ss) r e h = (ss, refl)
-
-pub missing : (x : Option (List ℕ)) (r : Sizes) → r ≡ sizes_of x → r.ok ≡ false → x ≡ none
-missing none r e h = refl
-missing (some ss) r e h = absurd (true≢false (sym (ap (λ (s : Sizes). s.ok) e) ∙ h))
-
 -- the header codes 1, 2, 4 or 8 partitions
 pub few : (md : Mode) (key : Bool) (bytes : List ℕ) → (decoded md key bytes).got.log2parts < 4
 few md key bytes = few_parts md key (bits bytes) (start bytes)
 
+-- so its number of partitions is the definition's, and there are 1 to 8
+pub partitions_are : (md : Mode) (k : Chunk) (bytes : List ℕ) (p : Parser)
+    → partitions_of (headed_of md k bytes p).header ≡ 2 ^ (decoded md k.key bytes).got.log2parts
+unfolding headed_of header_of
+partitions_are md k bytes p = ap (λ (n : ℕ). 2 ^ n) (mod-eq_of_lt (omega (arith, few md k.key bytes)))
+
+pub one_to_eight : (n : ℕ) → n < 4 → (1 ≤ 2 ^ n) × (2 ^ n ≤ 8)
+one_to_eight n h = (pow_pos n, few_partitions n h)
+
+-- a header that was read: with the sizes that the code found put into it, or a refusal where it found none
+module _ (k : Chunk) (c : Coded) (s : Snapshot) (p : Parser) where
+  pub sized_some : (x : Option (List ℕ)) (zs : List ℕ) → Some zs ≡ sizes_of x
+      → answer (Ok tt) (record (header_of k c s [] (shown k.key (probs_over c (probs_of p)))) { partition_size = zs }) (apply c p) ≡ sized x k c s p
+  unfolding header_of
+  sized_some none zs e = absurd (none-some _ (sym e))
+  sized_some (some ss) zs e =
+      ap (λ (l : List ℕ). answer (Ok tt) (record (header_of k c s [] (shown k.key (probs_over c (probs_of p)))) { partition_size = l }) (apply c p))
+      (same_Some _ _ e)
+
+  pub sized_none : (x : Option (List ℕ)) → None ≡ sizes_of x → answer (Err EndOfHeader) blank (apply c p) ≡ sized x k c s p
+  sized_none none e = refl
+  sized_none (some ss) e = absurd (none-some _ e)
+
 module _ (md : Mode) (k : Chunk) (p : Parser) (f : List ℕ) where
   pub ends_beyond : length f < k.size + k.first
-      → answer (InvalidPartitionSize (k.size + k.first) (length f)) blank (base k p) ≡ finish (follows k (body md k f)) p
+      → answer (Err (InvalidPartitionSize (k.size + k.first) (length f))) blank (base k p) ≡ finish (follows k (body md k f)) p
   ends_beyond h = ap (λ (b : Body). finish (follows k b) p) (sym (body_beyond md k f h))
 
   -- a reset state has no flag to clear
@@ -60,9 +76,9 @@ module _ (md : Mode) (k : Chunk) (p : Parser) (f : List ℕ) where
   clears false = refl
 
   pub ends_empty : k.size + k.first ≤ length f → length (held_by md k f) ≡ 0
-      → answer EmptyArea blank (cleared (base k p)) ≡ finish (follows k (body md k f)) p
+      → answer (Err EmptyArea) blank (cleared (base k p)) ≡ finish (follows k (body md k f)) p
   ends_empty h e =
-      ap (λ (q : Parser). answer EmptyArea blank q) (clears k.key)
+      ap (λ (q : Parser). answer (Err EmptyArea) blank q) (clears k.key)
       ∙ ap (λ (b : Body). finish (follows k b) p) (sym (body_empty md k f h e))
 
   pub ends_read : k.size + k.first ≤ length f → (length (held_by md k f) ≡ 0 → ⊥)

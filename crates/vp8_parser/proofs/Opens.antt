@@ -7,7 +7,7 @@ use mathlib.Core.List.{List, [], ◌∷◌}
 use lib.ListN.{length, drop}
 use borrow.Author.Tests.{lt-ltb, le-ltb, lt-leb, eq-eqb, ne_eqb}
 use Rattle.vp8_records.specs.declared.Mode.{Mode}
-use Rattle.vp8_records.specs.declared.Outcome.TheVariants.{ChunkTooShort, InvalidStartCode}
+use Rattle.vp8_records.specs.declared.Refusal.TheVariants.{ChunkTooShort, InvalidStartCode}
 use Rattle.rfc6386.specs.Bytes.{le2, le3}
 use Rattle.rfc6386.specs.Frame.{Chunk, tagged, shut, opened, key_chunk, chunk, Body, beyond, empty, decoded, headed, body}
 use Rattle.rfc6386.proofs.Accepts.{held_by}

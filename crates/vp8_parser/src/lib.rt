@@ -1,45 +1,18 @@
 // The frame of parser.rs: chunk, header, partition sizes, state and outcome, as one call by value; and a look at the first ten bytes.
 #![tactic(auto)]
 
-ghost use Rattle.std.specs.Prelude.{◌≡◌, true, false, ◌^◌, ◌<◌, ◌≤◌, length, take};
-ghost use Rattle.std.proofs.Math.Option.{none};
+ghost use Rattle.std.specs.Prelude.{◌≡◌, Err, ◌^◌, ◌<◌, ◌≤◌, length, take};
 ghost use Rattle.vp8_records.specs.declared.Mode.TheVariants.{Rust};
 ghost use Rattle.vp8_records.specs.Start.{blank};
-ghost use Rattle.rfc6386.specs.Frame.{tagged, key_chunk, chunk, coded_sizes, sizes, held, body, follows};
+ghost use Rattle.rfc6386.specs.Frame.{tagged, key_chunk, chunk, coded_sizes, sum, sizes, held, body, follows};
 ghost use Rattle.rfc6386.specs.Call.{cleared, base, answer, finish, call};
-ghost use Rattle.rfc6386.specs.Peek.{look, barred, peek, peek_of, Early};
+ghost use Rattle.rfc6386.specs.Peek.{look, peek, peek_of};
 ghost use Rattle.vp8_header.specs.Headed.{chunk_of};
-ghost use Rattle.vp8_parser.specs.Answers.{opened_of, listed_of, sizes_of, sized_of};
+ghost use Rattle.vp8_parser.specs.Answers.{opened_of, opened_early, padded, sizes_of, sized_of};
 
+use bitstream_utils::{read_le2, read_le3};
 use vp8_header::DataChunk;
-use vp8_records::{Header, Look, Mode, Outcome, Parsed, Parser, Peeked};
-
-// What the first bytes of a frame are: a chunk, or a refusal.
-#[derive(Clone, Copy)]
-pub enum ChunkAnswer {
-    // Refusal 6, 1 or 2.
-    Refused(Outcome),
-    // The chunk (RFC 6386 section 9.1).
-    Read(DataChunk),
-}
-
-// The partition sizes (RFC 6386 section 9.5).
-#[derive(Clone, Copy)]
-pub struct Sizes {
-    // Whether they end within the area.
-    pub ok: bool,
-    // Them; unused entries are 0.
-    pub sizes: [u32; 8],
-}
-
-// The sizes that are coded: all but the last (RFC 6386 section 9.5).
-#[derive(Clone, Copy)]
-pub struct Listed {
-    // Them; unused entries are 0.
-    pub sizes: [u32; 8],
-    // Their sum.
-    pub total: usize,
-}
+use vp8_records::{Header, Look, Mode, Parsed, Parser, PeekRefusal, Refusal};
 
 // The fields of the tag.
 fn tagged(tag: u32, key: bool, size: u8, width: u16, height: u16) -> DataChunk
@@ -58,52 +31,57 @@ fn tagged(tag: u32, key: bool, size: u8, width: u16, height: u16) -> DataChunk
 
 // A key frame's start code and sizes.
 #[tactic(auto, using(crate::proofs::Opens::key_short, crate::proofs::Opens::key_other, crate::proofs::Opens::key_cut, crate::proofs::Opens::key_whole))]
-fn key_chunk(bytes: &[u8]) -> ChunkAnswer
-    ensures { opened_of result ≡ key_chunk bytes.now }
+fn key_chunk(bytes: &[u8]) -> Result<DataChunk, PeekRefusal>
+    ensures { opened_early result ≡ key_chunk bytes.now }
 {
     if bytes.len() < 6 {
-        return ChunkAnswer::Refused(Outcome::ChunkTooShort);
+        return Err(PeekRefusal::TooShort);
     }
-    let code = bitstream_utils::read_le3(bytes, 3);
+    let code = read_le3(bytes, 3);
     if code != 0x2a019d {
-        return ChunkAnswer::Refused(Outcome::InvalidStartCode(code));
+        return Err(PeekRefusal::StartCode(code));
     }
     if bytes.len() < 10 {
-        return ChunkAnswer::Refused(Outcome::ChunkTooShort);
+        return Err(PeekRefusal::TooShort);
     }
-    let tag = bitstream_utils::read_le3(bytes, 0);
-    let width = bitstream_utils::read_le2(bytes, 6) as u16;
-    let height = bitstream_utils::read_le2(bytes, 8) as u16;
-    ChunkAnswer::Read(tagged(tag, true, 10, width, height))
+    let tag = read_le3(bytes, 0);
+    let width = read_le2(bytes, 6) as u16;
+    let height = read_le2(bytes, 8) as u16;
+    Ok(tagged(tag, true, 10, width, height))
 }
 
-// The chunk, or refusal 6, 1 or 2 (RFC 6386 section 9.1).
-#[tactic(auto, using(rfc6386::proofs::Peek::over_long, crate::proofs::Opens::chunk_short, crate::proofs::Opens::chunk_key, crate::proofs::Opens::chunk_inter))]
-pub fn parse_uncompressed_data_chunk(bytes: &[u8]) -> ChunkAnswer
-    ensures { opened_of result ≡ chunk bytes.now }
+// The chunk of bytes that are not too many, or refusal 1 or 2.
+#[tactic(auto, using(crate::proofs::Opens::chunk_short, crate::proofs::Opens::chunk_key, crate::proofs::Opens::chunk_inter))]
+fn short_chunk(bytes: &[u8]) -> Result<DataChunk, PeekRefusal>
+    requires { length bytes.now < 2 ^ 28 }
+    ensures { opened_early result ≡ chunk bytes.now }
 {
-    if Parser::TOO_LONG <= bytes.len() {
-        return ChunkAnswer::Refused(Outcome::FrameTooLong(bytes.len()));
-    }
     if bytes.len() < 3 {
-        return ChunkAnswer::Refused(Outcome::ChunkTooShort);
+        return Err(PeekRefusal::TooShort);
     }
-    let tag = bitstream_utils::read_le3(bytes, 0);
+    let tag = read_le3(bytes, 0);
     if tag % 2 == 0 {
         return key_chunk(bytes);
     }
-    ChunkAnswer::Read(tagged(tag, false, 3, 0, 0))
+    Ok(tagged(tag, false, 3, 0, 0))
+}
+
+// The chunk, or refusal 6, 1 or 2 (RFC 6386 section 9.1).
+#[tactic(auto, using(rfc6386::proofs::Peek::over_long))]
+pub fn parse_uncompressed_data_chunk(bytes: &[u8]) -> Result<DataChunk, Refusal>
+    ensures { opened_of result ≡ chunk bytes.now }
+{
+    if Parser::TOO_LONG <= bytes.len() {
+        return Err(Refusal::FrameTooLong(bytes.len()));
+    }
+    Ok(short_chunk(bytes)?)
 }
 
 // The first ten bytes, or all where there are no more.
 fn first_ten(bytes: &[u8]) -> &[u8]
     ensures { result.now ≡ take 10 bytes.now }
 {
-    if 10 < bytes.len() {
-        &bytes[..10]
-    } else {
-        bytes
-    }
+    &bytes[..bytes.len().min(10)]
 }
 
 // What a chunk tells.
@@ -122,95 +100,49 @@ fn look(chunk: DataChunk) -> Look
     }
 }
 
-// Refusal 2, or 1.
-fn barred(outcome: Outcome) -> Peeked
-    requires { Early outcome }
-    ensures { peek_of result ≡ barred outcome }
-{
-    if let Outcome::InvalidStartCode(code) = outcome {
-        Peeked::StartCode(code)
-    } else {
-        Peeked::TooShort
-    }
-}
-
 // A look at the first ten bytes of a frame, or at all where there are fewer (RFC 6386 section 9.1): what they tell, or refusal 1 or 2.
-pub fn peek(first: &[u8]) -> Peeked
+pub fn peek(first: &[u8]) -> Result<Look, PeekRefusal>
     ensures { peek_of result ≡ peek first.now }
 {
-    match parse_uncompressed_data_chunk(first_ten(first)) {
-        ChunkAnswer::Refused(outcome) => barred(outcome),
-        ChunkAnswer::Read(chunk) => Peeked::Seen(look(chunk)),
-    }
+    let chunk = short_chunk(first_ten(first))?;
+    Ok(look(chunk))
 }
 
-// How many partitions hold coefficients.
-fn num_dct_partitions(log2: u8) -> usize
-    requires { log2 < 4 }
-    ensures { (result ≡ 2 ^ log2) × (1 ≤ result) × (result ≤ 8) }
-{
-    match log2 {
-        0 => 1,
-        1 => 2,
-        2 => 4,
-        _ => 8,
-    }
-}
-
-// The partitions do not end within the area.
-fn no_sizes() -> Sizes
-    ensures { result ≡ sizes_of none }
-{
-    Sizes {
-        ok: false,
-        sizes: [0; 8],
-    }
-}
-
-// The sizes that are coded, 3 bytes each, and their sum.
-fn coded_sizes(area: &[u8], start: u32, count: usize) -> Listed
+// The sizes that are coded, 3 bytes each; unused entries are 0. And their sum.
+fn coded_sizes(area: &[u8], start: u32, count: usize) -> ([u32; 8], usize)
     requires { count ≤ 7 }
-    ensures { result ≡ listed_of (coded_sizes count area.now start) }
+    ensures { result ≡ (padded (coded_sizes count area.now start), sum (coded_sizes count area.now start)) }
 {
-    let mut sizes = [0u32; 8];
+    let mut sizes = [0; 8];
     let mut total: usize = 0;
-    let mut i = 0;
-    while i < count {
-        let size = bitstream_utils::read_le3(area, start as usize + 3 * i);
+    for i in 0..count {
+        let size = read_le3(area, start as usize + 3 * i);
         sizes[i] = size;
         total += size as usize;
-        i += 1;
     }
-    Listed { sizes, total }
+    (sizes, total)
 }
 
-// The sizes that are coded, with the last partition, which is the rest.
-fn compute_partition_sizes(area: &[u8], first: u32, log2: u8) -> Sizes
-    requires { (log2 < 4) × (length area.now < 2 ^ 28) }
-    ensures { result ≡ sizes_of (sizes (2 ^ log2) area.now first) }
+// The sizes that are coded, with the last partition, which is the rest; none where they do not end within the area.
+fn compute_partition_sizes(area: &[u8], first: u32, partitions: usize) -> Option<[u32; 8]>
+    requires few { (1 ≤ partitions) × (partitions ≤ 8) }
+    requires short { length area.now < 2 ^ 28 }
+    ensures { result ≡ sizes_of (sizes partitions area.now first) }
 {
-    let count = num_dct_partitions(log2) - 1;
-    let from = first as usize + 3 * count;
-    if area.len() < from {
-        return no_sizes();
-    }
-    let coded = coded_sizes(area, first, count);
-    if area.len() - from < coded.total {
-        return no_sizes();
-    }
-    let mut sizes = coded.sizes;
-    sizes[count] = (area.len() - from - coded.total) as u32;
-    Sizes { ok: true, sizes }
+    let count = partitions - 1;
+    let rest = area.len().checked_sub(first as usize + 3 * count)?;
+    let (mut sizes, total) = coded_sizes(area, first, count);
+    sizes[count] = rest.checked_sub(total)? as u32;
+    Some(sizes)
 }
 
 // A refusal has the blank header.
-fn refused(outcome: Outcome, parser: Parser) -> Parsed
-    ensures { result ≡ answer outcome blank parser }
+fn refused(refusal: Refusal, parser: Parser) -> Parsed
+    ensures { result ≡ answer (Err refusal) blank parser }
 {
-    let header = Header::blank();
     Parsed {
-        outcome,
-        header,
+        outcome: Err(refusal),
+        header: Header::blank(),
         parser,
     }
 }
@@ -227,13 +159,13 @@ fn base_of(chunk: DataChunk, parser: Parser) -> Parser
 }
 
 // What the failing first read of a header over an empty area leaves.
-fn clear_updates(parser: Parser) -> Parser
+#[tactic(auto, unfolding(rfc6386::specs::Call::cleared))]
+fn clear_updates(mut parser: Parser) -> Parser
     ensures { result ≡ cleared parser }
 {
-    let mut after = parser;
-    after.segmentation.update_mb_segmentation_map = false;
-    after.segmentation.update_segment_feature_data = false;
-    after
+    parser.segmentation.update_mb_segmentation_map = false;
+    parser.segmentation.update_segment_feature_data = false;
+    parser
 }
 
 // What the decoder may read of the area: the first partition; to the Rust all of it.
@@ -255,21 +187,17 @@ fn parse_area(parser: Parser, area: &[u8], held: &[u8], chunk: DataChunk, mode: 
     let headed = vp8_header::parse_frame_header(held, parser, chunk, mode);
     let mut header = headed.header;
     let after = headed.parser;
-    let parts = compute_partition_sizes(
-        area,
-        chunk.first_part_size,
-        header.log2_nbr_of_dct_partitions,
-    );
-    if parts.ok {
-        let sizes = parts.sizes;
-        header.partition_size = sizes;
-        Parsed {
-            outcome: Outcome::Accepted,
-            header,
-            parser: after,
+    let partitions = header.num_dct_partitions();
+    match compute_partition_sizes(area, chunk.first_part_size, partitions) {
+        Some(sizes) => {
+            header.partition_size = sizes;
+            Parsed {
+                outcome: Ok(()),
+                header,
+                parser: after,
+            }
         }
-    } else {
-        refused(Outcome::EndOfHeader, after)
+        None => refused(Refusal::EndOfHeader, after),
     }
 }
 
@@ -282,12 +210,12 @@ fn parse_body(parser: Parser, bytes: &[u8], chunk: DataChunk, mode: Mode) -> Par
     let end = at + chunk.first_part_size as usize;
     let from = base_of(chunk, parser);
     if bytes.len() < end {
-        return refused(Outcome::InvalidPartitionSize(end, bytes.len()), from);
+        return refused(Refusal::InvalidPartitionSize(end, bytes.len()), from);
     }
     let area = &bytes[at..];
     let held = held(mode, chunk.first_part_size, area);
-    if held.len() == 0 {
-        return refused(Outcome::EmptyArea, clear_updates(from));
+    if held.is_empty() {
+        return refused(Refusal::EmptyArea, clear_updates(from));
     }
     parse_area(from, area, held, chunk, mode)
 }
@@ -296,10 +224,9 @@ fn parse_body(parser: Parser, bytes: &[u8], chunk: DataChunk, mode: Mode) -> Par
 pub fn parse_in(parser: Parser, bytes: &[u8], mode: Mode) -> Parsed
     ensures { result ≡ call mode parser bytes.now }
 {
-    let opened = parse_uncompressed_data_chunk(bytes);
-    match opened {
-        ChunkAnswer::Refused(outcome) => refused(outcome, parser),
-        ChunkAnswer::Read(chunk) => parse_body(parser, bytes, chunk, mode),
+    match parse_uncompressed_data_chunk(bytes) {
+        Ok(chunk) => parse_body(parser, bytes, chunk, mode),
+        Err(refusal) => refused(refusal, parser),
     }
 }
 

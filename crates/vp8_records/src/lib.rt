@@ -559,15 +559,15 @@ impl Header {
     }
 
     // How many partitions hold coefficients (9.5).
-    pub fn num_dct_partitions(self) -> usize
-        ensures { result ≡ partitions_of self }
+    pub fn num_dct_partitions(&self) -> usize
+        ensures { result ≡ partitions_of self.now }
     {
         1usize << (self.log2_nbr_of_dct_partitions % 64)
     }
 
     // The length of the whole frame: chunk, first partition, size bytes, and each partition (9.5).
-    pub fn frame_len(self) -> usize
-        ensures { result ≡ length_of self }
+    pub fn frame_len(&self) -> usize
+        ensures { result ≡ length_of self.now }
     {
         let count = self.num_dct_partitions();
         let before = self.data_chunk_size as usize + self.first_part_size as usize;

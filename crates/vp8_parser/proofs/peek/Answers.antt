@@ -1,23 +1,17 @@
--- By what the first ten bytes are: a chunk, or a refusal, which ten bytes give by 1 or 2 alone.
-use Prim.Native.Nat.{ℕ}
-use mathlib.Core.Path.{sym, ap, ◌∙◌}
-use mathlib.Core.List.{List}
+-- The chunk of the first ten bytes, or its refusal, is what the definition looks at.
+use Rattle.std.proofs.Common.{ℕ, List, ap, ◌∙◌}
+use Rattle.std.proofs.lemmas.Result.{err_from_is_err_and}
 use Rattle.rfc6386.specs.Frame.{chunk}
 use Rattle.rfc6386.specs.Peek.{seen, looked, peek}
-use Rattle.rfc6386.proofs.Peek.{barred_early}
 use Rattle.vp8_parser.proofs.peek.Goals as goal
 
-pub barred-requires : goal.barred-requires
+pub returns-in_err-chunk : goal.returns-in_err-chunk
 unfolding peek
-barred-requires c = let told = rw c.in-Refused.is at c.parse_uncompressed_data_chunk.ensures in
-    barred_early c.args.first.now _ (ap (λ (f : List ℕ). looked (chunk f)) (sym c.first_ten.ensures) ∙ ap looked (sym told))
+returns-in_err-chunk c =
+    let p = err_from_is_err_and c.from_residual.result c.from_residual.ensures.1 in
+    rw (p.1, p.2) (ap looked c.in_err-chunk.ensures ∙ ap (λ (f : List ℕ). looked (chunk f)) c.first_ten.ensures)
 
-pub returns-in-Refused : goal.returns-in-Refused
+pub returns : goal.returns
 unfolding peek
-returns-in-Refused c = let told = rw c.in-Refused.is at c.parse_uncompressed_data_chunk.ensures in
-    c.barred.ensures ∙ ap looked told ∙ ap (λ (f : List ℕ). looked (chunk f)) c.first_ten.ensures
-
-pub returns-in-Read : goal.returns-in-Read
-unfolding peek
-returns-in-Read c = let told = rw c.in-Read.is at c.parse_uncompressed_data_chunk.ensures in
-    ap seen c.look.ensures ∙ ap looked told ∙ ap (λ (f : List ℕ). looked (chunk f)) c.first_ten.ensures
+returns c =
+    ap seen c.look.ensures ∙ ap looked c.in_ok-chunk.ensures ∙ ap (λ (f : List ℕ). looked (chunk f)) c.first_ten.ensures
