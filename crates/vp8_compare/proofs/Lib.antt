@@ -1,3 +1,3 @@
 -- What the proofs of several functions use.
+mod Maps
 mod Parts
-mod Order

@@ -4,63 +4,72 @@ use Prim.Native.Nat.{ℕ, suc, ◌+◌, ◌≤◌, ◌<◌}
 use native.Mathlib.Omega.{arith}
 use native.Mathlib.Nat.{add-zero}
 use mathlib.Core.Path.{◌≡◌, refl, ap, sym, ◌∙◌}
-use mathlib.Core.Bool.{Bool, true, false}
+use mathlib.Core.Bool.{Bool, true, false, not}
 use mathlib.Core.List.{List, [], ◌∷◌, ◌++◌}
-use lib.Dec.{eqb}
+use lib.Dec.{eqb, ltb}
 use lib.ListN.{length, get_or, drop, drop_of_length-le}
 use lib.Seq.{drop-cons, drop-drop}
-use borrow.Author.Tests.{eq-eqb, ne_eqb}
+use borrow.Author.Tests.{true-ltb, false-ltb}
+use denote.Bor.{Bor}
+use Rattle.std.proofs.Common.{Option, None, Some}
+use Rattle.std.specs.Cmp.{IsPartialEquivalence}
+use Rattle.std.specs.Option.{option_or, option_eq, is_some, IfSome}
 use Rattle.rfc6386.specs.Decoder.{pick}
-use Rattle.vp8_compare.specs.Apart.{apart, or_place}
-use Rattle.vp8_compare.specs.declared.Place.{Place}
-use Rattle.vp8_compare.specs.declared.Place.TheVariants.{At, Nowhere}
+use Rattle.vp8_compare.specs.Apart.{apart_by, apart}
 
--- after i numbers that do not differ
-pub record Turn (a b : List ℕ) (from i : ℕ) : Type 0 where
-  pub count : i ≤ length a
-  pub same : apart (from + i) (drop i a) (drop (from + i) b) ≡ apart from a (drop from b)
+-- after i entries that do not differ
+pub record Turn {X : Type 0} (eq : X → X → Bool) (a b : List X) (from i : ℕ) : Type 0 where
+  pub same : apart_by eq (from + i) (drop i a) (drop (from + i) b) ≡ apart_by eq from a (drop from b)
 
-pub begin : {a b : List ℕ} (from : ℕ) → Turn a b from 0
-begin from = record { count = omega arith; same = rw (add-zero from) }
+-- what a look into the second run tells of an entry of the first
+met : {X : Type 0} {eq : X → X → Bool} → IsPartialEquivalence eq → (b : List X) (n : ℕ) (x : Bor X) (xs : List X) (r : Option (Bor X))
+    → is_some r ≡ ltb n (length b) → IfSome r (λ y. y.now ≡ get_or b n y.now)
+    → apart_by eq n (x.now ∷ xs) (drop n b) ≡ pick (option_eq (λ p q. eq p.now q.now) r (Some x)) (apart_by eq (suc n) xs (drop (suc n) b)) (Some n)
+unfolding apart_by
+met laws b n x xs None e f = rw (drop_of_length-le b (false-ltb n (length b) e))
+met laws b n x xs (Some y) e f = rw (drop-cons b n y.now (true-ltb n (length b) e), ← f, laws.symm x.now y.now)
 
-pub turn : {a b : List ℕ} {from i : ℕ} → Turn a b from i → i < length a → from + i < length b
-    → get_or a i 0 ≡ get_or b (from + i) 0 → Turn a b from (i + 1)
-unfolding apart
-turn {a} {b} {from} {i} t h k e =
-    let n : from + (i + 1) ≡ suc (from + i) = omega arith in
-    let m : i + 1 ≡ suc i = omega arith in
-    let now : apart (from + i) (drop i a) (drop (from + i) b) ≡ apart (suc (from + i)) (drop (suc i) a) (drop (suc (from + i)) b) =
-    rw (drop-cons a i 0 h, drop-cons b (from + i) 0 k, eq-eqb (get_or a i 0) (get_or b (from + i) 0) e) in
-    record { count = omega arith; same = rw (n, m) (sym now ∙ t.same) }
+module _ {X : Type 0} {eq : X → X → Bool} (laws : IsPartialEquivalence eq) {a b : List X} {from i : ℕ} (x : Bor X) (r : Option (Bor X))
+    (t : Turn eq a b from i) (h : i < length a) (here : x.now ≡ get_or a i x.now)
+    (some : is_some r ≡ ltb (from + i) (length b)) (there : IfSome r (λ y. y.now ≡ get_or b (from + i) y.now)) where
+  look : (e : Bool) → option_eq (λ p q. eq p.now q.now) r (Some x) ≡ e
+      → pick e (apart_by eq (suc (from + i)) (drop (suc i) a) (drop (suc (from + i)) b)) (Some (from + i)) ≡ apart_by eq from a (drop from b)
+  look e q =
+      let now : drop i a ≡ x.now ∷ drop (suc i) a = rw (drop-cons a i x.now h, ← here) in
+      rw (← q) (sym (rw now (met laws b (from + i) x (drop (suc i) a) r some there)) ∙ t.same)
 
--- the second run ends
-pub short : {a b : List ℕ} {from i : ℕ} → Turn a b from i → i < length a → length b ≤ from + i → At (from + i) ≡ apart from a (drop from b)
-unfolding apart
-short {a} {b} {from} {i} t h k =
-    let now : apart (from + i) (drop i a) (drop (from + i) b) ≡ At (from + i) = rw (drop-cons a i 0 h, drop_of_length-le b k) in
+  -- none, or another one
+  pub differs : true ≡ not (option_eq (λ p q. eq p.now q.now) r (Some x)) → Some (from + i) ≡ apart_by eq from a (drop from b)
+  differs e = go _ refl e
+    where
+      go : (q : Bool) → option_eq (λ p q. eq p.now q.now) r (Some x) ≡ q → true ≡ not q → Some (from + i) ≡ apart_by eq from a (drop from b)
+      go true d z = absurd (let w : ◌≡◌ {A = ℕ} 0 1 = cc z in omega arith)
+      go false d z = look false d
+
+  pub agrees : false ≡ not (option_eq (λ p q. eq p.now q.now) r (Some x)) → Turn eq a b from (i + 1)
+  agrees e = record { same = go _ refl e }
+    where
+      go : (q : Bool) → option_eq (λ p q. eq p.now q.now) r (Some x) ≡ q → false ≡ not q
+          → apart_by eq (from + (i + 1)) (drop (i + 1) a) (drop (from + (i + 1)) b) ≡ apart_by eq from a (drop from b)
+      go true d z =
+          let n : from + (i + 1) ≡ suc (from + i) = omega arith in
+          let m : i + 1 ≡ suc i = omega arith in
+          rw (n, m) (look true d)
+      go false d z = absurd (let w : ◌≡◌ {A = ℕ} 0 1 = cc z in omega arith)
+
+pub none : {X : Type 0} {eq : X → X → Bool} {a b : List X} {from i : ℕ} → Turn eq a b from i → length a ≤ i
+    → None ≡ apart_by eq from a (drop from b)
+unfolding apart_by
+none {a = a} {b = b} {from = from} {i = i} t h =
+    let now : apart_by _ (from + i) (drop i a) (drop (from + i) b) ≡ None = rw (drop_of_length-le a h) in
     sym now ∙ t.same
 
--- it has another number
-pub other : {a b : List ℕ} {from i : ℕ} → Turn a b from i → i < length a → from + i < length b → (get_or a i 0 ≡ get_or b (from + i) 0 → ⊥)
-    → At (from + i) ≡ apart from a (drop from b)
-unfolding apart
-other {a} {b} {from} {i} t h k e =
-    let now : apart (from + i) (drop i a) (drop (from + i) b) ≡ At (from + i) =
-    rw (drop-cons a i 0 h, drop-cons b (from + i) 0 k, ne_eqb (get_or a i 0) (get_or b (from + i) 0) e) in
-    sym now ∙ t.same
-
-pub none : {a b : List ℕ} {from i : ℕ} → Turn a b from i → length a ≤ i → Nowhere ≡ apart from a (drop from b)
-unfolding apart
-none {a} {b} {from} {i} t h =
-    let now : apart (from + i) (drop i a) (drop (from + i) b) ≡ Nowhere = rw (drop_of_length-le a h) in
-    sym now ∙ t.same
-
-first_differs : (n : ℕ) (b : Bool) (p q r : Place) → or_place p q ≡ r → or_place (pick b p (At n)) q ≡ pick b r (At n)
+first_differs : (n : ℕ) (b : Bool) (p q r : Option ℕ) → option_or p q ≡ r → option_or (pick b p (Some n)) q ≡ pick b r (Some n)
 first_differs n true p q r e = e
 first_differs n false p q r e = refl
 
-append : (n : ℕ) (xs ys zs : List ℕ) → or_place (apart n xs zs) (apart (n + length xs) ys (drop (length xs) zs)) ≡ apart n (xs ++ ys) zs
-unfolding apart
+append : (n : ℕ) (xs ys zs : List ℕ) → option_or (apart n xs zs) (apart (n + length xs) ys (drop (length xs) zs)) ≡ apart n (xs ++ ys) zs
+unfolding apart_by
 append n [] ys zs = rw (add-zero n)
 append n (x ∷ xs) ys [] = refl
 append n (x ∷ xs) ys (z ∷ zs) =
@@ -68,9 +77,9 @@ append n (x ∷ xs) ys (z ∷ zs) =
     first_differs n (eqb x z) _ _ _ (rw e (append (suc n) xs ys zs))
 
 -- a run at a place of the stored ones, then another
-pub then : (from m : ℕ) (xs ys stored : List ℕ) {p q r : Place} → m ≡ from + length xs
-    → p ≡ apart from xs (drop from stored) → q ≡ apart m ys (drop m stored) → r ≡ or_place p q → r ≡ apart from (xs ++ ys) (drop from stored)
+pub then : (from m : ℕ) (xs ys stored : List ℕ) {p q r : Option ℕ} → m ≡ from + length xs
+    → p ≡ apart from xs (drop from stored) → q ≡ apart m ys (drop m stored) → r ≡ option_or p q → r ≡ apart from (xs ++ ys) (drop from stored)
 then from m xs ys stored {q} e f g h =
-    h ∙ ap (λ (z : Place). or_place z q) f
-    ∙ ap (or_place (apart from xs (drop from stored))) (g ∙ rw (e, ← drop-drop (length xs) from stored))
+    h ∙ ap (λ (z : Option ℕ). option_or z q) f
+    ∙ ap (option_or (apart from xs (drop from stored))) (g ∙ rw (e, ← drop-drop (length xs) from stored))
     ∙ append from xs ys (drop from stored)

@@ -1,16 +1,13 @@
--- Where two runs of numbers first differ.
-use Rattle.std.specs.Prelude.{ℕ, suc, List, [], ◌∷◌, eqb}
+-- Where two runs first differ.
+use Rattle.std.specs.Prelude.{ℕ, suc, List, [], ◌∷◌, Bool, Option, None, Some, eqb}
 use Rattle.rfc6386.specs.Decoder.{pick}
-use Rattle.vp8_compare.specs.declared.Place.{Place}
-use Rattle.vp8_compare.specs.declared.Place.TheVariants.{At, Nowhere}
 
--- the first place, counted from n, where the second run has another number or none
-unfoldable pub apart : ℕ → List ℕ → List ℕ → Place
-apart n [] ys = Nowhere
-apart n (x ∷ xs) [] = At n
-apart n (x ∷ xs) (y ∷ ys) = pick (eqb x y) (apart (suc n) xs ys) (At n)
+-- the first place, counted from n, where the second run has another entry or none, as a test of two entries tells
+unfoldable pub apart_by : {X : Type 0} → (X → X → Bool) → ℕ → List X → List X → Option ℕ
+apart_by eq n [] ys = None
+apart_by eq n (x ∷ xs) [] = Some n
+apart_by eq n (x ∷ xs) (y ∷ ys) = pick (eq x y) (apart_by eq (suc n) xs ys) (Some n)
 
--- the first of two places
-abbrev pub or_place : Place → Place → Place
-or_place (At i) p = At i
-or_place Nowhere p = p
+-- of numbers
+abbrev pub apart : ℕ → List ℕ → List ℕ → Option ℕ
+apart n xs ys = apart_by eqb n xs ys

@@ -1,6 +1,7 @@
 -- The first difference between an answer and a stored one, in the order of a list's record (tests/fixed/README.md): the refusal, what it
 -- carries, an accepted frame's numbers and probabilities, the kept numbers.
-use Rattle.std.specs.Prelude.{ℕ, List, ◌++◌, eqb, get_or}
+use Rattle.std.specs.Prelude.{ℕ, List, ◌++◌, Option, None, Some, eqb, get_or}
+use Rattle.std.specs.Option.{option_map, option_or}
 use Rattle.vp8_records.specs.declared.Header.{Header}
 use Rattle.vp8_records.specs.declared.Parsed.{Parsed}
 use Rattle.vp8_records.specs.Layout.{flat_coeffs, flat_mv}
@@ -9,10 +10,8 @@ use Rattle.vp8_flat.specs.declared.header.Carried.{Carried}
 use Rattle.vp8_flat.specs.Bytes.{flat_modes, kept_bytes}
 use Rattle.vp8_flat.specs.Numbers.{carried_of, front_numbers, flags_of, tail_of}
 use Rattle.vp8_compare.specs.Apart.{apart}
-use Rattle.vp8_compare.specs.declared.Place.{Place}
-use Rattle.vp8_compare.specs.declared.Place.TheVariants.{At, Nowhere}
-use Rattle.vp8_compare.specs.declared.Found.{Found}
-use Rattle.vp8_compare.specs.declared.Found.TheVariants.{Same, Refusal, Carried as Carries, Number, Probability, Kept}
+use Rattle.vp8_compare.specs.declared.Difference.{Difference}
+use Rattle.vp8_compare.specs.declared.Difference.TheVariants.{Refusal, Carried as Carries, Number, Probability, Kept}
 
 -- a header's fifty-one numbers, in the order of a list
 abbrev pub back_numbers : Header → List ℕ
@@ -25,35 +24,23 @@ header_numbers h = front_numbers h ++ back_numbers h
 abbrev pub prob_bytes : Header → List ℕ
 prob_bytes h = flat_coeffs h.coeff_prob ++ (flat_mv h.mv_prob ++ flat_modes h.mode_probs)
 
--- a difference at a place, or else the next
-abbrev pub placed : (ℕ → Found) → Place → Found → Found
-placed f (At i) next = f i
-placed f Nowhere next = next
-
-unfoldable pub header_found : Header → List ℕ → List ℕ → Found
+unfoldable pub header_found : Header → List ℕ → List ℕ → Option Difference
 header_found h numbers probs =
-    placed Number (apart 0 (header_numbers h) numbers) (placed Probability (apart 0 (prob_bytes h) probs) Same)
+    option_or (option_map Number (apart 0 (header_numbers h) numbers)) (option_map Probability (apart 0 (prob_bytes h) probs))
 
 -- a refusal's number, 0 where the frame is accepted, and what it carries stand first; of an accepted frame the header follows
-unfoldable pub answer_by : Carried → Header → List ℕ → List ℕ → List ℕ → Found
+unfoldable pub answer_by : Carried → Header → List ℕ → List ℕ → List ℕ → Option Difference
 answer_by c h given numbers probs =
     pick (eqb c.number (get_or given 0 0))
     (pick (eqb c.a (get_or given 1 0))
-    (pick (eqb c.b (get_or given 2 0)) (pick (eqb c.number 0) (header_found h numbers probs) Same) Carries)
-    Carries)
-    Refusal
+    (pick (eqb c.b (get_or given 2 0)) (pick (eqb c.number 0) (header_found h numbers probs) None) (Some Carries))
+    (Some Carries))
+    (Some Refusal)
 
-unfoldable pub answer_found : Parsed → List ℕ → List ℕ → List ℕ → Found
+unfoldable pub answer_found : Parsed → List ℕ → List ℕ → List ℕ → Option Difference
 answer_found p given numbers probs = answer_by (carried_of p.outcome) p.header given numbers probs
 
 -- what was found, or else where the kept numbers differ
-abbrev pub or_kept : Found → Place → Found
-or_kept Same p = placed Kept p Same
-or_kept Refusal p = Refusal
-or_kept Carries p = Carries
-or_kept (Number n) p = Number n
-or_kept (Probability n) p = Probability n
-or_kept (Kept n) p = Kept n
-
-unfoldable pub found_of : Parsed → List ℕ → List ℕ → List ℕ → List ℕ → Found
-found_of p given numbers probs kept = or_kept (answer_found p given numbers probs) (apart 0 (kept_bytes p.parser) kept)
+unfoldable pub found_of : Parsed → List ℕ → List ℕ → List ℕ → List ℕ → Option Difference
+found_of p given numbers probs kept =
+    option_or (answer_found p given numbers probs) (option_map Kept (apart 0 (kept_bytes p.parser) kept))

@@ -1,24 +1,21 @@
 -- Each array is what its call gives and has its own length; one after the other by `then` of `Parts`.
+use Prim.Native.Nat.{◌+◌}
 use native.Mathlib.Omega.{arith}
 use mathlib.Core.Path.{◌≡◌}
 use mathlib.Core.List.{◌++◌}
-use lib.ListN.{length}
-use Rattle.vp8_compare.proofs.Parts.{then}
+use lib.ListN.{length, length-append}
+use Rattle.std.proofs.Common.{append_assoc}
 use borrow.Author.Rules.{rules}
+use Rattle.vp8_compare.proofs.Parts.{then}
 use Rattle.vp8_compare.proofs.probs_apart.Goals as goal
 
 pub returns : goal.returns
-returns c = let motion = c.motion-motion in
-    let coeffs = c.coeffs-coeffs in
-    let long : length coeffs.result ≡ 1056 = search rules in
-    let short : length motion.result ≡ 38 = search rules in
+returns c = let coeffs = c.coeffs-coeffs.result in
+    let motion = c.motion-motion.result in
+    let long : length coeffs ≡ 1056 = search rules in
+    let short : length motion ≡ 38 = search rules in
     let stored = c.args.stored.now in
-    let modes = c.modes-modes.result in
-    let rest =
-    then 1056 1094 motion.result modes stored (omega (arith, short)) c.bytes_apart-in_motion.ensures
-    c.bytes_apart-in_modes.ensures
-    c.or.ensures in
-    let all =
-    then 0 1056 coeffs.result (motion.result ++ modes) stored (omega (arith, long)) c.bytes_apart-in_coeffs.ensures rest
-    c.or-2.ensures in
-    rw (coeffs.ensures, motion.ensures, c.modes-modes.ensures) at all
+    let two = then 0 1056 coeffs motion stored (omega (arith, long)) c.first_apart.ensures c.first_apart-2.ensures c.or.ensures in
+    let size : 1094 ≡ 0 + length (coeffs ++ motion) = omega (arith, long, short, length-append coeffs motion) in
+    let all = rw append_assoc at (then 0 1094 (coeffs ++ motion) c.modes-modes.result stored size two c.first_apart-3.ensures c.or-2.ensures) in
+    rw (c.coeffs-coeffs.ensures, c.motion-motion.ensures, c.modes-modes.ensures) at all
