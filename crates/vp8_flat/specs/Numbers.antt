@@ -5,8 +5,7 @@ use Rattle.std.specs.Int.{w8}
 use Rattle.vp8_records.specs.declared.Header.{Header}
 use Rattle.vp8_records.specs.declared.Look.{Look}
 use Rattle.vp8_records.specs.declared.QuantIndices.{QuantIndices}
-use Rattle.vp8_records.specs.declared.Outcome.{Outcome}
-use Rattle.vp8_records.specs.Outcome.{number_of, carried_by}
+use Rattle.vp8_records.specs.Outcome.{Outcome, number_of, carried_by}
 use Rattle.vp8_flat.specs.declared.header.Carried.{Carried}
 use Rattle.vp8_flat.specs.Bytes.{bit_of}
 

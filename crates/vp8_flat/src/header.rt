@@ -3,10 +3,10 @@ ghost use Rattle.std.specs.Prelude.{◌≡◌, ◌≤◌};
 ghost use Rattle.vp8_flat.specs.Numbers.{partition_count, shape_of, quant_of, flags_of, tail_of, look_of, carried_of};
 
 use crate::byte_of;
-use vp8_records::{Header, Look, Outcome, QuantIndices};
+use vp8_records::{Header, Look, QuantIndices, Refusal};
 
 // What a refusal carries: 2 its code, 3 the end and the length, 6 the length; else zeros. The number is 0 where the frame is accepted.
-#[derive(Clone, Copy)]
+#[derive(Clone, Copy, PartialEq, Eq, Debug)]
 pub struct Carried {
     pub number: u32,
     pub a: u64,
@@ -14,46 +14,17 @@ pub struct Carried {
 }
 
 // The number and what is carried.
-pub fn refusal(outcome: Outcome) -> Carried
+pub fn refusal(outcome: Result<(), Refusal>) -> Carried
     ensures { result ≡ carried_of outcome }
 {
-    match outcome {
-        Outcome::Accepted => Carried {
-            number: 0,
-            a: 0,
-            b: 0,
-        },
-        Outcome::ChunkTooShort => Carried {
-            number: 1,
-            a: 0,
-            b: 0,
-        },
-        Outcome::InvalidStartCode(code) => Carried {
-            number: 2,
-            a: code as u64,
-            b: 0,
-        },
-        Outcome::InvalidPartitionSize(end, length) => Carried {
-            number: 3,
-            a: end as u64,
-            b: length as u64,
-        },
-        Outcome::EmptyArea => Carried {
-            number: 4,
-            a: 0,
-            b: 0,
-        },
-        Outcome::EndOfHeader => Carried {
-            number: 5,
-            a: 0,
-            b: 0,
-        },
-        Outcome::FrameTooLong(length) => Carried {
-            number: 6,
-            a: length as u64,
-            b: 0,
-        },
-    }
+    let number = vp8_records::number(outcome);
+    let (a, b) = match outcome {
+        Err(Refusal::InvalidStartCode(code)) => (u64::from(code), 0),
+        Err(Refusal::InvalidPartitionSize(end, length)) => (end as u64, length as u64),
+        Err(Refusal::FrameTooLong(length)) => (length as u64, 0),
+        _ => (0, 0),
+    };
+    Carried { number, a, b }
 }
 
 // How many partitions hold coefficients (RFC 6386 section 9.5).
