@@ -246,7 +246,8 @@ module _ (md : Mode) (p : Parser) (f : List ℕ) where
   pub refused_4 : (call md p f).outcome ≡ Err EmptyArea → Refused (call md p f) 4 [] (base_of (key_of f) f (cleared p))
   refused_4 = refused EmptyArea
 
-  pub refused_5 : (call md p f).outcome ≡ Err EndOfHeader → Refused (call md p f) 5 [] (apply (coded md (key_of f) f) (base_of (key_of f) f p))
+  pub refused_5 : (call md p f).outcome ≡ Err EndOfHeader
+      → Refused (call md p f) 5 [] (apply (coded md (key_of f) f) (base_of (key_of f) f p))
   refused_5 = refused EndOfHeader
 
   -- and what an accepted frame leaves

@@ -5,12 +5,11 @@ use native.Mathlib.Omega.{arith}
 use mathlib.Core.Path.{◌≡◌, refl, ap, sym, ◌∙◌}
 use mathlib.Core.List.{List, []}
 use lib.ListN.{length}
+use Rattle.std.specs.Prelude.{Ok, Err}
 use Rattle.vp8_records.specs.declared.Header.{Header}
 use Rattle.vp8_records.specs.declared.Mode.{Mode}
 use Rattle.vp8_records.specs.declared.Parser.{Parser}
-use Rattle.vp8_records.specs.declared.Outcome.{Outcome}
-use Rattle.vp8_records.specs.declared.Outcome.TheVariants.{Accepted, ChunkTooShort, InvalidStartCode, InvalidPartitionSize, EmptyArea, EndOfHeader, FrameTooLong}
-use Rattle.vp8_records.specs.Outcome.{number_of}
+use Rattle.vp8_records.specs.Outcome.{Outcome, number_of}
 use Rattle.vp8_records.specs.Start.{blank}
 use Rattle.vp8_records.specs.Length.{length_of}
 use Rattle.rfc6386.specs.Call.{call}
@@ -19,18 +18,13 @@ use Rattle.vp8_frame.specs.View.{viewed, Framed}
 use Rattle.vp8_frame.proofs.Lengths.{length_is}
 
 empty : (o : Outcome) (f : List ℕ) → 0 < number_of o → viewed o f ≡ []
-empty Accepted f h = absurd (omega (arith, h))
-empty ChunkTooShort f h = refl
-empty (InvalidStartCode code) f h = refl
-empty (InvalidPartitionSize end length) f h = refl
-empty EmptyArea f h = refl
-empty EndOfHeader f h = refl
-empty (FrameTooLong length) f h = refl
+empty (Ok u) f h = absurd (omega (arith, h))
+empty (Err r) f h = refl
 
 module _ {md : Mode} {p : Parser} {f : List ℕ} {o : Outcome} {h : Header} {s : List ℕ} {q : Parser} (a : Framed md p f o h s q) where
-  pub accepted_whole : o ≡ Accepted → (s ≡ f) × (length_of h ≡ length s)
+  pub accepted_whole : o ≡ Ok tt → (s ≡ f) × (length_of h ≡ length s)
   accepted_whole e =
-      let c : (call md p f).outcome ≡ Accepted = sym a.says ∙ e in
+      let c : (call md p f).outcome ≡ Ok tt = sym a.says ∙ e in
       let whole : s ≡ f = a.refers ∙ ap (λ (x : Outcome). viewed x f) c in
       (whole, ap length_of a.reads ∙ length_is md p f c ∙ ap length (sym whole))
 

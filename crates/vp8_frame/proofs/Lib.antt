@@ -1,6 +1,5 @@
--- Theorems about the lent call and sequences of it, and what its walks share.
+-- Theorems about the lent call and sequences of it.
 pub mod Same
 pub mod Lengths
 pub mod Answers
 pub mod Served
-pub mod Values

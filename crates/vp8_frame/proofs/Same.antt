@@ -6,7 +6,7 @@ use mathlib.Core.List.{List}
 use Rattle.vp8_records.specs.declared.Header.{Header}
 use Rattle.vp8_records.specs.declared.Mode.{Mode}
 use Rattle.vp8_records.specs.declared.Parser.{Parser}
-use Rattle.vp8_records.specs.declared.Outcome.{Outcome}
+use Rattle.vp8_records.specs.Outcome.{Outcome}
 use Rattle.vp8_frame.specs.View.{Framed}
 
 pub same : {md : Mode} {p : Parser} {f : List ℕ} {o o' : Outcome} {h h' : Header} {s s' : List ℕ} {q q' : Parser} → Framed md p f o h s q

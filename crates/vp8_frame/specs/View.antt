@@ -1,21 +1,15 @@
 -- The answer of a lent call, an equation for each thing that its caller sees.
-use Rattle.std.specs.Prelude.{ℕ, ◌≡◌, List, []}
+use Rattle.std.specs.Prelude.{ℕ, ◌≡◌, List, [], Ok, Err}
 use Rattle.vp8_records.specs.declared.Header.{Header}
 use Rattle.vp8_records.specs.declared.Mode.{Mode}
 use Rattle.vp8_records.specs.declared.Parser.{Parser}
-use Rattle.vp8_records.specs.declared.Outcome.{Outcome}
-use Rattle.vp8_records.specs.declared.Outcome.TheVariants.{Accepted, ChunkTooShort, InvalidStartCode, InvalidPartitionSize, EmptyArea, EndOfHeader, FrameTooLong}
+use Rattle.vp8_records.specs.Outcome.{Outcome}
 use Rattle.rfc6386.specs.Call.{Asked, call, called}
 
 -- the whole frame where it was accepted, and an empty part where it was refused
 abbrev pub viewed : Outcome → List ℕ → List ℕ
-viewed Accepted f = f
-viewed ChunkTooShort f = []
-viewed (InvalidStartCode code) f = []
-viewed (InvalidPartitionSize end length) f = []
-viewed EmptyArea f = []
-viewed EndOfHeader f = []
-viewed (FrameTooLong length) f = []
+viewed (Ok u) f = f
+viewed (Err r) f = []
 
 -- over a record that held p, a frame f in this mode: the answer's fields, the bytes it refers to, and what the record holds afterwards
 pub record Framed (md : Mode) (p : Parser) (f : List ℕ) (outcome : Outcome) (header : Header) (part : List ℕ) (after : Parser)

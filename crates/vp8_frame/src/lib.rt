@@ -6,13 +6,13 @@ ghost use Rattle.std.specs.Prelude.{◌≡◌};
 ghost use Rattle.vp8_records.specs.declared.Mode.TheVariants.{Rust};
 ghost use Rattle.vp8_frame.specs.View.{viewed, Framed};
 
-use vp8_records::{Header, Mode, Outcome, Parser};
+use vp8_records::{Header, Mode, Parser, Refusal};
 
 // A header and the whole frame that it was read from; of a refusal, the blank header and an empty part.
-#[derive(Clone, Copy)]
+#[derive(Clone, Copy, PartialEq, Eq, Debug)]
 pub struct Frame<'a> {
     // How the call went.
-    pub outcome: Outcome,
+    pub outcome: Result<(), Refusal>,
     // What the frame's header says; blank where it was refused (RFC 6386 section 19.2).
     pub header: Header,
     // The caller's bytes: all of the frame, or none where it was refused.
@@ -20,37 +20,31 @@ pub struct Frame<'a> {
 }
 
 // The part that an answer refers to: it begins where the frame does.
-fn part_of<'a>(bytes: &'a [u8], outcome: Outcome) -> &'a [u8]
+fn part_of<'a>(bytes: &'a [u8], outcome: Result<(), Refusal>) -> &'a [u8]
     ensures { (result.now ≡ viewed outcome bytes.now) × (result.ref_ptr ≡ bytes.entry.ref_ptr) }
 {
     match outcome {
-        Outcome::Accepted => bytes,
-        Outcome::ChunkTooShort => &bytes[..0],
-        Outcome::InvalidStartCode(_) => &bytes[..0],
-        Outcome::InvalidPartitionSize(_, _) => &bytes[..0],
-        Outcome::EmptyArea => &bytes[..0],
-        Outcome::EndOfHeader => &bytes[..0],
-        Outcome::FrameTooLong(_) => &bytes[..0],
+        Ok(()) => bytes,
+        Err(_) => &bytes[..0],
     }
 }
 
 // One call over a lent parser, which holds the new state when it returns, also where the frame is refused.
-pub fn parse_frame_in<'s, 'a>(parser: &'s mut Parser, bytes: &'a [u8], mode: Mode) -> Frame<'a>
+pub fn parse_frame_in<'a>(parser: &mut Parser, bytes: &'a [u8], mode: Mode) -> Frame<'a>
     ensures { Framed mode parser.old bytes.now result.outcome result.header result.bitstream.now
         parser.new × (result.bitstream.ref_ptr ≡ bytes.entry.ref_ptr) }
 {
     let parsed = vp8_parser::parse_in(*parser, bytes, mode);
     *parser = parsed.parser;
-    let bitstream = part_of(bytes, parsed.outcome);
     Frame {
         outcome: parsed.outcome,
         header: parsed.header,
-        bitstream,
+        bitstream: part_of(bytes, parsed.outcome),
     }
 }
 
 // One call over a lent parser, read as the Rust reads.
-pub fn parse_frame<'s, 'a>(parser: &'s mut Parser, bytes: &'a [u8]) -> Frame<'a>
+pub fn parse_frame<'a>(parser: &mut Parser, bytes: &'a [u8]) -> Frame<'a>
     ensures { Framed Rust parser.old bytes.now result.outcome result.header result.bitstream.now
         parser.new × (result.bitstream.ref_ptr ≡ bytes.entry.ref_ptr) }
 {

@@ -7,6 +7,7 @@ use borrow.Author.Tests.{lt-ltb, le-ltb}
 use Rattle.std.proofs.lemmas.Option.{none-some, same_Some}
 use Rattle.std.specs.Prelude.{Ok, Err, Some, None}
 use Rattle.vp8_records.specs.declared.Mode.{Mode}
+use Rattle.vp8_records.specs.declared.Parsed.{Parsed}
 use Rattle.vp8_records.specs.declared.Parser.{Parser}
 use Rattle.vp8_records.specs.declared.Refusal.TheVariants.{InvalidPartitionSize, EmptyArea, EndOfHeader}
 use Rattle.vp8_records.specs.Start.{fresh, blank}
@@ -52,13 +53,14 @@ one_to_eight n h = (pow_pos n, few_partitions n h)
 
 -- a header that was read: with the sizes that the code found put into it, or a refusal where it found none
 module _ (k : Chunk) (c : Coded) (s : Snapshot) (p : Parser) where
-  pub sized_some : (x : Option (List ℕ)) (zs : List ℕ) → Some zs ≡ sizes_of x
-      → answer (Ok tt) (record (header_of k c s [] (shown k.key (probs_over c (probs_of p)))) { partition_size = zs }) (apply c p) ≡ sized x k c s p
+  -- its answer with these sizes
+  abbrev with_sizes : List ℕ → Parsed
+  with_sizes zs = answer (Ok tt) (record (header_of k c s [] (shown k.key (probs_over c (probs_of p)))) { partition_size = zs }) (apply c p)
+
+  pub sized_some : (x : Option (List ℕ)) (zs : List ℕ) → Some zs ≡ sizes_of x → with_sizes zs ≡ sized x k c s p
   unfolding header_of
   sized_some none zs e = absurd (none-some _ (sym e))
-  sized_some (some ss) zs e =
-      ap (λ (l : List ℕ). answer (Ok tt) (record (header_of k c s [] (shown k.key (probs_over c (probs_of p)))) { partition_size = l }) (apply c p))
-      (same_Some _ _ e)
+  sized_some (some ss) zs e = ap with_sizes (same_Some _ _ e)
 
   pub sized_none : (x : Option (List ℕ)) → None ≡ sizes_of x → answer (Err EndOfHeader) blank (apply c p) ≡ sized x k c s p
   sized_none none e = refl

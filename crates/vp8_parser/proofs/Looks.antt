@@ -19,7 +19,8 @@ use Rattle.rfc6386.proofs.Peek.{accepted_seen, barred_refused, refused_barred}
 use Rattle.vp8_parser.proofs.Same.{same_look}
 
 -- r is the look's answer, q the call's
-module _ (md : Mode) (p : Parser) (f : List ℕ) (r : Result Look PeekRefusal) (q : Parsed) (a : peek_of r ≡ peek f) (b : q ≡ call md p f) where
+module _
+    (md : Mode) (p : Parser) (f : List ℕ) (r : Result Look PeekRefusal) (q : Parsed) (a : peek_of r ≡ peek f) (b : q ≡ call md p f) where
   -- where the call accepts, the look has its header's fields
   pub looks_header : q.outcome ≡ Ok tt → r ≡ Ok (look_from q.header)
   looks_header h =

@@ -1,50 +1,43 @@
 -- What holds at the head of the loop: the calls that are left, from the state so far, end where all of them end. A turn takes the first
 -- of them, by the contract of `parse`.
-use Prim.Native.Nat.{ℕ, zero, suc, ◌+◌, ◌-◌, ◌≤◌, ◌<◌, min}
-use native.Mathlib.Numerals.{add-one}
-use native.Mathlib.Omega.{arith}
-use mathlib.Core.Path.{◌≡◌, refl, sym, ap, ap₂, ◌∙◌}
-use mathlib.Core.List.{List, [], ◌∷◌}
+use Rattle.std.proofs.Common.{◌≡◌, ℕ, zero, suc, ◌+◌, ◌≤◌, ◌<◌, min, List, [], ◌∷◌, length, get_or, take, drop, refl, sym, ap, ◌∙◌, add-one, arith, take_all, drop_of_length-le}
 use native.Mathlib.Decide.{dec_le}
-use lib.ListN.{length, get_or, take, drop, length-drop, drop_of_length-le}
-use lib.Seq.{drop-cons, drop-drop, take_all}
+use lib.Seq.{drop-cons}
+use mir.Val.{bool_byte}
+use Rattle.std.specs.Prelude.{Ok, Err, is_ok}
 use Rattle.vp8_records.specs.declared.Mode.{Mode}
-use Rattle.vp8_records.specs.declared.Outcome.{Outcome}
-use Rattle.vp8_records.specs.declared.Outcome.TheVariants.{Accepted, ChunkTooShort, InvalidStartCode, InvalidPartitionSize, EmptyArea, EndOfHeader, FrameTooLong}
 use Rattle.vp8_records.specs.declared.Parser.{Parser}
 use Rattle.vp8_records.specs.declared.Parsed.{Parsed}
 use Rattle.vp8_records.specs.Mode.{mode_of}
+use Rattle.vp8_records.specs.Outcome.{Outcome}
 use Rattle.vp8_records.specs.Shape.{Sized}
 use Rattle.rfc6386.specs.Call.{Asked, call, calls, after}
 use Rattle.rfc6386.specs.Fills.{cuts}
 use Rattle.vp8_sequence.specs.Fold.{asked, one, accepted, Folds}
 
-pub record Turn (p₀ : Parser) (ms ns f : List ℕ) (p : Parser) (count at i : ℕ) : Type 0 where
+pub record Turn (p₀ : Parser) (ms ns f : List ℕ) (p : Parser) (count : ℕ) (rest : List ℕ) (i : ℕ) : Type 0 where
   pub turns : i ≤ length ns
-  pub within : at ≤ length f
   pub few : count ≤ i
-  pub state : after p (asked (drop i ms) (cuts (drop i ns) (drop at f))) ≡ after p₀ (asked ms (cuts ns f))
-  pub answers : count + accepted (calls p (asked (drop i ms) (cuts (drop i ns) (drop at f)))) ≡ accepted (calls p₀ (asked ms (cuts ns f)))
+  pub state : after p (asked (drop i ms) (cuts (drop i ns) rest)) ≡ after p₀ (asked ms (cuts ns f))
+  pub answers : count + accepted (calls p (asked (drop i ms) (cuts (drop i ns) rest))) ≡ accepted (calls p₀ (asked ms (cuts ns f)))
 
-pub begin : (p : Parser) (ms ns f : List ℕ) → Turn p ms ns f p 0 0 0
-begin p ms ns f = record { turns = omega arith; within = omega arith; few = omega arith; state = refl; answers = omega arith }
+pub begin : (p : Parser) (ms ns f : List ℕ) → Turn p ms ns f p 0 f 0
+begin p ms ns f = record { turns = omega arith; few = omega arith; state = refl; answers = omega arith }
 
--- a frame that is cut at the end of the bytes is what they have of it
-frame_is : (f : List ℕ) (at n end : ℕ) → at ≤ length f → end ≡ min (at + n) (length f) → take (end - at) (drop at f) ≡ take n (drop at f)
-frame_is f at n end h e = go (dec_le (at + n) (length f))
+-- a frame that is cut at the end of the bytes is what they have of it, and so is what is left
+frame_is : (f : List ℕ) (n : ℕ) → take (min (length f) n) f ≡ take n f
+frame_is f n = go (dec_le n (length f))
   where
-    go : Dec (at + n ≤ length f) → take (end - at) (drop at f) ≡ take n (drop at f)
-    go (yes g) = let same : end - at ≡ n = omega (arith, e, g) in ap (λ (k : ℕ). take k (drop at f)) same
-    go (no g) =
-        take_all (end - at) (drop at f) (omega (arith, e, g, length-drop at f))
-        ∙ sym (take_all n (drop at f) (omega (arith, g, length-drop at f)))
+    go : Dec (n ≤ length f) → take (min (length f) n) f ≡ take n f
+    go (yes g) = let same : min (length f) n ≡ n = omega (arith, g) in ap (λ (k : ℕ). take k f) same
+    go (no g) = take_all (min (length f) n) f (omega (arith, g)) ∙ sym (take_all n f (omega (arith, g)))
 
-rest_is : (f : List ℕ) (at n end : ℕ) → end ≡ min (at + n) (length f) → drop n (drop at f) ≡ drop end f
-rest_is f at n end e = drop-drop n at f ∙ go (dec_le (at + n) (length f))
+rest_is : (f : List ℕ) (n : ℕ) → drop (min (length f) n) f ≡ drop n f
+rest_is f n = go (dec_le n (length f))
   where
-    go : Dec (at + n ≤ length f) → drop (at + n) f ≡ drop end f
-    go (yes g) = let same : at + n ≡ end = omega (arith, e, g) in ap (λ (k : ℕ). drop k f) same
-    go (no g) = drop_of_length-le f {i = at + n} (omega (arith, g)) ∙ sym (drop_of_length-le f {i = end} (omega (arith, e, g)))
+    go : Dec (n ≤ length f) → drop (min (length f) n) f ≡ drop n f
+    go (yes g) = let same : min (length f) n ≡ n = omega (arith, g) in ap (λ (k : ℕ). drop k f) same
+    go (no g) = drop_of_length-le f {i = min (length f) n} (omega (arith, g)) ∙ sym (drop_of_length-le f {i = n} (omega (arith, g)))
 
 -- the first of the frames that are left has the next mode
 asked_first : (ms : List ℕ) (i : ℕ) (f : List ℕ) (fs : List (List ℕ))
@@ -55,60 +48,58 @@ asked_first [] (suc i) f fs = refl
 asked_first (m ∷ ms) zero f fs = refl
 asked_first (m ∷ ms) (suc i) f fs = asked_first ms i f fs
 
+-- an accepted frame is counted
+pub one_is : (o : Outcome) → bool_byte (is_ok o) ≡ one o
+one_is (Ok u) = refl
+one_is (Err r) = refl
+
 pub one_few : (o : Outcome) → one o ≤ 1
-one_few Accepted = omega arith
-one_few ChunkTooShort = omega arith
-one_few (InvalidStartCode code) = omega arith
-one_few (InvalidPartitionSize end length) = omega arith
-one_few EmptyArea = omega arith
-one_few EndOfHeader = omega arith
-one_few (FrameTooLong length) = omega arith
+one_few (Ok u) = omega arith
+one_few (Err r) = omega arith
 
-module _ (p : Parser) (ms ns f : List ℕ) (at i end : ℕ) (m : Mode) (r : Parsed) (h : i < length ns) (g : at ≤ length f)
-    (e : end ≡ min (at + get_or ns i 0) (length f)) (w : m ≡ mode_of (get_or ms i 0)) (q : r ≡ call m p (take (end - at) (drop at f))) where
+module _ (p : Parser) (ms ns f : List ℕ) (i : ℕ) (m : Mode) (r : Parsed) (h : i < length ns) (w : m ≡ mode_of (get_or ms i 0))
+    (q : r ≡ call m p (take (get_or ns i 0) f)) where
   abbrev rest : List Asked
-  rest = asked (drop (i + 1) ms) (cuts (drop (i + 1) ns) (drop end f))
+  rest = asked (drop (i + 1) ms) (cuts (drop (i + 1) ns) (drop (get_or ns i 0) f))
 
-  -- the frames that are left are the next and those after it
-  first_is : cuts (drop i ns) (drop at f) ≡ take (end - at) (drop at f) ∷ cuts (drop (i + 1) ns) (drop end f)
+  -- the calls that are left are the next and those after it
+  next_is : asked (drop i ms) (cuts (drop i ns) f) ≡ record { mode = m; frame = take (get_or ns i 0) f } ∷ rest
   unfolding cuts
-  first_is =
-      let n : ℕ = get_or ns i 0 in
-      ap (λ (l : List ℕ). cuts l (drop at f)) (drop-cons ns i 0 h ∙ ap (λ (k : ℕ). n ∷ drop k ns) (sym (add-one i)))
-      ∙ ap₂ {C = List (List ℕ)} (λ x xs. x ∷ cuts (drop (i + 1) ns) xs) (sym (frame_is f at n end g e)) (rest_is f at n end e)
-
-  -- and so are the calls
-  next_is : asked (drop i ms) (cuts (drop i ns) (drop at f)) ≡ record { mode = m; frame = take (end - at) (drop at f) } ∷ rest
   next_is =
-      ap (λ (fs : List (List ℕ)). asked (drop i ms) fs) first_is ∙ asked_first ms i _ _
-      ∙ ap₂ {C = List Asked}
-      (λ x k. record { mode = x; frame = take (end - at) (drop at f) } ∷ asked (drop k ms) (cuts (drop (i + 1) ns) (drop end f))) (sym w) (sym (add-one i))
+      let n : ℕ = get_or ns i 0 in
+      ap (λ (l : List ℕ). asked (drop i ms) (cuts l f)) (drop-cons ns i 0 h)
+      ∙ asked_first ms i (take n f) (cuts (drop (suc i) ns) (drop n f))
+      ∙ (λ j. let k = sym (add-one i) j in
+      record { mode = sym w j; frame = take n f } ∷ asked (drop k ms) (cuts (drop k ns) (drop n f)))
 
-  state_next : after p (asked (drop i ms) (cuts (drop i ns) (drop at f))) ≡ after r.parser rest
+  state_next : after p (asked (drop i ms) (cuts (drop i ns) f)) ≡ after r.parser rest
   unfolding after
   state_next = ap (λ (xs : List Asked). after p xs) next_is ∙ ap (λ (x : Parsed). after x.parser rest) (sym q)
 
-  answers_next : accepted (calls p (asked (drop i ms) (cuts (drop i ns) (drop at f))))
-      ≡ one r.outcome + accepted (calls r.parser rest)
+  answers_next : accepted (calls p (asked (drop i ms) (cuts (drop i ns) f))) ≡ one r.outcome + accepted (calls r.parser rest)
   unfolding calls accepted
   answers_next =
       ap (λ (xs : List Asked). accepted (calls p xs)) next_is
       ∙ ap (λ (x : Parsed). one x.outcome + accepted (calls x.parser rest)) (sym q)
 
-pub turn : {p₀ : Parser} {ms ns f : List ℕ} {p : Parser} {count at i end k : ℕ} {m : Mode} {r : Parsed}
-    → Turn p₀ ms ns f p count at i → i < length ns → end ≡ min (at + get_or ns i 0) (length f) → m ≡ mode_of (get_or ms i 0)
-    → r ≡ call m p (take (end - at) (drop at f)) → k ≡ one r.outcome → Turn p₀ ms ns f r.parser (count + k) end (i + 1)
-turn {p₀} {ms} {ns} {f} {p} {count} {at} {i} {end} {k} {m} {r} t h e w q o = record {
-  turns = omega arith;
-  within = omega (arith, e);
-  few = omega (arith, t.few, o, one_few r.outcome);
-  state = sym (state_next p ms ns f at i end m r h t.within e w q) ∙ t.state;
-  answers = omega (arith, t.answers, answers_next p ms ns f at i end m r h t.within e w q, o);
-}
+pub turn : {p₀ : Parser} {ms ns f : List ℕ} {p : Parser} {count : ℕ} {left : List ℕ} {i k : ℕ} {m : Mode} {frame rest : List ℕ} {r : Parsed}
+    → Turn p₀ ms ns f p count left i → i < length ns → frame ≡ take (min (length left) (get_or ns i 0)) left
+    → rest ≡ drop (min (length left) (get_or ns i 0)) left → m ≡ mode_of (get_or ms i 0) → r ≡ call m p frame → k ≡ one r.outcome
+    → Turn p₀ ms ns f r.parser (count + k) rest (i + 1)
+turn {p₀} {ms} {ns} {f} {p} {count} {left} {i} {k} {m} {frame} {rest} {r} t h a b w q o =
+    let n : ℕ = get_or ns i 0 in
+    let is : r ≡ call m p (take n left) = q ∙ ap (λ (x : List ℕ). call m p x) (a ∙ frame_is left n) in
+    let left_is : rest ≡ drop n left = b ∙ rest_is left n in
+    record {
+      turns = omega arith;
+      few = omega (arith, t.few, o, one_few r.outcome);
+      state = rw left_is (sym (state_next p ms ns left i m r h w is) ∙ t.state);
+      answers = rw left_is (omega (arith, t.answers, answers_next p ms ns left i m r h w is, o));
+    }
 
-pub ended : {p₀ : Parser} {ms ns f : List ℕ} {p : Parser} {count at i : ℕ} → Turn p₀ ms ns f p count at i → length ns ≤ i
-    → Sized p₀ → Folds p₀ (asked ms (cuts ns f)) p count
+pub ended : {p₀ : Parser} {ms ns f : List ℕ} {p : Parser} {count : ℕ} {rest : List ℕ} {i : ℕ} → Turn p₀ ms ns f p count rest i
+    → length ns ≤ i → Sized p₀ → Folds p₀ (asked ms (cuts ns f)) p count
 unfolding after calls accepted cuts asked
-ended {p₀} {ms} {ns} {f} {p} {count} {at} {i} t h s =
+ended {p₀} {ms} {ns} {f} {p} {count} {rest} {i} t h s =
     let none : drop i ns ≡ [] = drop_of_length-le ns h in
     record { state = rw none at t.state; count = omega (arith, rw none at t.answers); sized = s }

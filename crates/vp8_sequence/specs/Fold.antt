@@ -1,10 +1,9 @@
 -- Frames over one parser: the state after them, and how many were accepted.
-use Rattle.std.specs.Prelude.{ℕ, ◌+◌, ◌≡◌, List, [], ◌∷◌}
-use Rattle.vp8_records.specs.declared.Outcome.{Outcome}
-use Rattle.vp8_records.specs.declared.Outcome.TheVariants.{Accepted, ChunkTooShort, InvalidStartCode, InvalidPartitionSize, EmptyArea, EndOfHeader, FrameTooLong}
+use Rattle.std.specs.Prelude.{ℕ, ◌+◌, ◌≡◌, List, [], ◌∷◌, Ok, Err}
 use Rattle.vp8_records.specs.declared.Parsed.{Parsed}
 use Rattle.vp8_records.specs.declared.Parser.{Parser}
 use Rattle.vp8_records.specs.Mode.{mode_of}
+use Rattle.vp8_records.specs.Outcome.{Outcome}
 use Rattle.vp8_records.specs.Shape.{Sized}
 use Rattle.rfc6386.specs.Call.{Asked, calls, after}
 
@@ -15,13 +14,8 @@ asked [] (f ∷ fs) = record { mode = mode_of 0; frame = f } ∷ asked [] fs
 asked (m ∷ ms) (f ∷ fs) = record { mode = mode_of m; frame = f } ∷ asked ms fs
 
 abbrev pub one : Outcome → ℕ
-one Accepted = 1
-one ChunkTooShort = 0
-one (InvalidStartCode code) = 0
-one (InvalidPartitionSize end length) = 0
-one EmptyArea = 0
-one EndOfHeader = 0
-one (FrameTooLong length) = 0
+one (Ok u) = 1
+one (Err r) = 0
 
 -- how many of a list of answers are accepted
 unfoldable pub accepted : List Parsed → ℕ
