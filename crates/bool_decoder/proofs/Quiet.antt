@@ -11,7 +11,7 @@ use lib.ListN.{get_or}
 use Rattle.rfc6386.specs.Decoder.{split}
 use Rattle.rfc6386.specs.Reads.{Rd, ret, ◌>>=◌, bool, when}
 use Rattle.bool_decoder.specs.Window.{Over, Good, Ran}
-use Rattle.bool_decoder.specs.Quiet.{narrowed, ReadsAhead, Ahead, Quiet, here, past, Finds, hit, miss}
+use Rattle.bool_decoder.specs.Quiet.{narrowed, ReadsAhead, Ahead, Quiet, here, past, Finds, hit, miss, Seeks}
 use Rattle.bool_decoder.specs.declared.Window.{Window}
 use Rattle.bool_decoder.specs.declared.BoolDecoder.{BoolDecoder}
 use Rattle.bool_decoder.proofs.Chain.{then, done, on, off, fewer}
@@ -51,6 +51,11 @@ module _ {t : List ℕ} {i : ℕ} {d e : BoolDecoder} {j : ℕ} (q : Quiet d.are
   -- after zeros a decoder may read what is left
   pub left : {n : ℕ} → j ≤ n → ReadsAhead t i n d → ReadsAhead t j n e
   left h a = record { order = h; inside = a.inside; room = (onward h (ahead d a) q).good.room }
+
+-- a search is one over an area that is the decoder's
+pub over_area : {t : List ℕ} {i n j : ℕ} {d e : BoolDecoder} {at : Bor (List ℕ)} → d.area ≡ at → Seeks t i n d j e
+    → Finds at.now t i n d.window j e.window
+over_area {t} {i} {n} {j} {d} {e} same s = subst (λ (at : Bor (List ℕ)). Finds at.now t i n d.window j e.window) same s.finds
 
 -- zeros that follow over the same area are joined
 pub join_over : {t : List ℕ} {at to : Bor (List ℕ)} {i j k : ℕ} {d e f : Window} → to ≡ at → Quiet at.now t i d j e → Quiet to.now t j e k f

@@ -3,63 +3,34 @@ ghost use Rattle.std.specs.Prelude.{[]};
 ghost use Rattle.rfc6386.specs.Reads.{when, sint, make, times, maybe};
 ghost use Rattle.rfc6386.specs.Coded.{deltas};
 ghost use Rattle.rfc6386.specs.Call.{adjusted};
-ghost use Rattle.bool_decoder.specs.Model.{Good, Passed, Ran};
+ghost use Rattle.bool_decoder.specs.Model.{Room, Passed, Ran};
 ghost use Rattle.vp8_fields.specs.Rows.{onto};
 
-use crate::arrays::{Ints, sints_or};
-use bool_decoder::BoolDecoder;
-use bool_decoder::reads::flag_if;
+use crate::arrays::sints_or;
+use bool_decoder::{BoolDecoder, Read};
 use vp8_records::MbLfAdjustments;
 
-// The record after the sub-header, and the decoder after it.
-#[derive(Clone, Copy)]
-pub struct AdjustmentsRead {
-    pub mb_lf_adjust: MbLfAdjustments,
-    // How many bits the decoder has gone past the area's end.
-    pub past: u32,
-    pub dec: BoolDecoder,
-}
-
 // Four deltas where `on` is set, as they were where it isn't.
-fn deltas_if(area: &[u8], dec: BoolDecoder, on: bool, old: [i8; 4]) -> Ints
-    requires { Good area.now dec 32 }
-    ensures { Ran (onto old (when on (times 4 (maybe 128 (sint 6))) [])) area.now dec result.values result.dec 32 }
+fn deltas_if(dec: &mut BoolDecoder, on: bool, old: [i8; 4]) -> [i8; 4]
+    requires { Room dec.old 32 }
+    ensures { Ran (onto old (when on (times 4 (maybe 128 (sint 6))) [])) dec.old result dec.new 32 }
 {
-    if on {
-        sints_or(area, dec, 6, old)
-    } else {
-        Ints { values: old, dec }
-    }
+    if on { sints_or(dec, 6, old) } else { old }
 }
 
 // mb_lf_adjustments() of section 19.2.
-pub fn parse_mb_lf_adjustments(
-    area: &[u8],
-    dec: BoolDecoder,
-    adj: MbLfAdjustments,
-) -> AdjustmentsRead
-    requires { Good area.now dec 66 }
-    ensures { Passed (make (λ c. adjusted c adj) deltas) area.now dec result.mb_lf_adjust result.past result.dec 66 }
+pub fn parse_mb_lf_adjustments(dec: &mut BoolDecoder, adj: MbLfAdjustments) -> Read<MbLfAdjustments>
+    requires { Room dec.old 66 }
+    ensures { Passed (make (λ c. adjusted c adj) deltas) dec.old result.value result.past dec.new 66 }
 {
-    let enable = dec.read_flag(area);
-    let update = flag_if(area, enable.dec, enable.bit);
-    let old_frames = adj.ref_frame_delta;
-    let frames = deltas_if(area, update.dec, update.bit, old_frames);
-    let old_modes = adj.mb_mode_delta;
-    let modes = deltas_if(area, frames.dec, update.bit, old_modes);
-    let ref_frame_delta = frames.values;
-    let mb_mode_delta = modes.values;
-    let mb_lf_adjust = MbLfAdjustments {
-        loop_filter_adj_enable: enable.bit,
-        mode_ref_lf_delta_update: update.bit,
+    let loop_filter_adj_enable = dec.read_flag();
+    let mode_ref_lf_delta_update = dec.flag_if(loop_filter_adj_enable);
+    let ref_frame_delta = deltas_if(dec, mode_ref_lf_delta_update, adj.ref_frame_delta);
+    let mb_mode_delta = deltas_if(dec, mode_ref_lf_delta_update, adj.mb_mode_delta);
+    dec.with_past(MbLfAdjustments {
+        loop_filter_adj_enable,
+        mode_ref_lf_delta_update,
         ref_frame_delta,
         mb_mode_delta,
-    };
-    let after = modes.dec;
-    let past = after.past(area);
-    AdjustmentsRead {
-        mb_lf_adjust,
-        past,
-        dec: after,
-    }
+    })
 }

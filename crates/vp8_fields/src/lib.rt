@@ -1,6 +1,6 @@
-// The sub-headers of parser.rs, a module each. A function takes the decoder over an area and the record as it was, and gives the record,
-// how many bits the decoder has gone past the area's end, and the decoder after it. Its contract says that the definition's tree was run:
-// what it read, written over the old record, and where the decoder then stands.
+// The sub-headers of parser.rs, a module each. A function reads from a decoder over the record as it was, and gives the record and how many
+// bits the decoder has then gone past the area's end. Its contract says that the definition's tree was run: what it read, written over the
+// old record, and where the decoder then stands.
 #![tactic(auto)]
 
 mod arrays;

@@ -6,28 +6,12 @@ ghost use Rattle.rfc6386.specs.Reads.{make};
 ghost use Rattle.rfc6386.specs.Runs.{or};
 ghost use Rattle.rfc6386.specs.Coded.{mv_of, motion};
 ghost use Rattle.rfc6386.specs.Call.{mv_over};
-ghost use Rattle.bool_decoder.specs.Model.{Good, Passed, Ran};
+ghost use Rattle.bool_decoder.specs.Model.{Room, Passed, Ran};
 ghost use Rattle.vp8_fields.specs.Rows.{coded_mv, row_over};
 
-use bool_decoder::BoolDecoder;
-use bool_decoder::reads::{Byte, read_byte};
+use bool_decoder::{BoolDecoder, Read};
+use vp8_probs::tables::MV_UPDATE_PROBS;
 use vp8_records::{MvContext, MvProbs};
-
-// The probabilities of one component, and the decoder after them.
-#[derive(Clone, Copy)]
-struct MvContextRead {
-    pub row: MvContext,
-    pub dec: BoolDecoder,
-}
-
-// Those of both, and the decoder after them.
-#[derive(Clone, Copy)]
-pub struct MvRead {
-    pub mv_prob: MvProbs,
-    // How many bits the decoder has gone past the area's end.
-    pub past: u32,
-    pub dec: BoolDecoder,
-}
 
 // A motion probability: 7 bits, of which 0 stands for 1 and all else for twice the value.
 fn mv_of(update: u8) -> u8
@@ -38,74 +22,38 @@ fn mv_of(update: u8) -> u8
 }
 
 // One where its bool, at the chance p, is set, `other` where it isn't.
-fn mv_or(area: &[u8], dec: BoolDecoder, p: u8, other: u8) -> Byte
-    requires { Good area.now dec 8 }
-    ensures { Ran (make (λ u. or u other) (coded_mv p)) area.now dec result.value result.dec 8 }
+fn mv_or(dec: &mut BoolDecoder, p: u8, other: u8) -> u8
+    requires { Room dec.old 8 }
+    ensures { Ran (make (λ u. or u other) (coded_mv p)) dec.old result dec.new 8 }
 {
-    let update = dec.read_bit(area, p);
-    let next = update.dec;
-    if update.bit {
-        let n = read_byte(area, next, 7);
-        let after = n.dec;
-        Byte {
-            value: mv_of(n.value),
-            dec: after,
-        }
+    if dec.read_bit(p) {
+        mv_of(dec.read_byte(7))
     } else {
-        Byte {
-            value: other,
-            dec: next,
-        }
+        other
     }
 }
 
 // The nineteen of one component, whose chances stand in the table from `at` on.
-fn mv_context(
-    area: &[u8],
-    table: &[u8; 38],
-    dec: BoolDecoder,
-    at: usize,
-    row: MvContext,
-) -> MvContextRead
-    requires { (table.now ≡ mv_update) × (at + 19 ≤ 38) × Good area.now dec 152 }
-    ensures { Ran (row_over flat_mv_context laid_mv_context 19 coded_mv mv_update at row) area.now dec result.row result.dec 152 }
+fn mv_context(dec: &mut BoolDecoder, table: &[u8; 38], at: usize, row: MvContext) -> MvContext
+    requires { (table.now ≡ mv_update) × (at + 19 ≤ 38) × Room dec.old 152 }
+    ensures { Ran (row_over flat_mv_context laid_mv_context 19 coded_mv mv_update at row) dec.old result dec.new 152 }
 {
     let mut out = row;
-    let mut next = dec;
-    let mut j = 0;
-    while j < 19 {
-        let p = table[at + j];
-        let n = mv_or(area, next, p, out.v[j]);
-        next = n.dec;
-        out.v[j] = n.value;
-        j += 1;
+    for j in 0..19 {
+        out.v[j] = mv_or(dec, table[at + j], out.v[j]);
     }
-    MvContextRead {
-        row: out,
-        dec: next,
-    }
+    out
 }
 
 // mv_prob_update() of section 19.2.
-pub fn parse_mv_prob_update(area: &[u8], dec: BoolDecoder, mv_probs: MvProbs) -> MvRead
-    requires { Good area.now dec 304 }
-    ensures { Passed (make (λ us. mv_over us mv_probs) motion) area.now dec result.mv_prob result.past result.dec 304 }
+pub fn parse_mv_prob_update(dec: &mut BoolDecoder, mv_probs: MvProbs) -> Read<MvProbs>
+    requires { Room dec.old 304 }
+    ensures { Passed (make (λ us. mv_over us mv_probs) motion) dec.old result.value result.past dec.new 304 }
 {
     let mut out = mv_probs;
-    let mut next = dec;
-    let table = vp8_probs::tables::MV_UPDATE_PROBS;
-    let mut i = 0;
-    while i < 2 {
-        let n = mv_context(area, &table, next, i * 19, out.v[i]);
-        next = n.dec;
-        let made = n.row;
-        out.v[i] = made;
-        i += 1;
+    let table = MV_UPDATE_PROBS;
+    for i in 0..2 {
+        out.v[i] = mv_context(dec, &table, i * 19, out.v[i]);
     }
-    let past = next.past(area);
-    MvRead {
-        mv_prob: out,
-        past,
-        dec: next,
-    }
+    dec.with_past(out)
 }

@@ -3,77 +3,39 @@ ghost use Rattle.std.specs.Prelude.{◌≡◌, []};
 ghost use Rattle.rfc6386.specs.Reads.{when, lit, make};
 ghost use Rattle.rfc6386.specs.Coded.{anew, features, mapped, segments};
 ghost use Rattle.rfc6386.specs.Call.{segmented};
-ghost use Rattle.bool_decoder.specs.Model.{Good, Passed, Ran};
+ghost use Rattle.bool_decoder.specs.Model.{Room, Passed, Ran};
 ghost use Rattle.vp8_fields.specs.Rows.{featured, features_if, onto};
 
 use crate::arrays::{bytes_or, sints_or};
-use crate::modes::ThreeBytes;
-use bool_decoder::BoolDecoder;
-use bool_decoder::reads::flag_if;
+use bool_decoder::{BoolDecoder, Read};
 use vp8_records::{Mode, Segmentation};
 
-// The record after the sub-header, and the decoder after it.
-#[derive(Clone, Copy)]
-pub struct SegmentationRead {
-    pub segmentation: Segmentation,
-    // How many bits the decoder has gone past the area's end.
-    pub past: u32,
-    pub dec: BoolDecoder,
-}
-
-// The record with its feature data, and the decoder after them.
-#[derive(Clone, Copy)]
-struct FeaturesRead {
-    pub segmentation: Segmentation,
-    pub dec: BoolDecoder,
-}
-
 // The tree's three probabilities where `on` is set: each is read anew, and 255 where its flag is clear.
-fn segment_probs_if(area: &[u8], dec: BoolDecoder, on: bool, old: [u8; 3]) -> ThreeBytes
-    requires { Good area.now dec 27 }
-    ensures { Ran (onto old (when on (anew 3 (lit 8) 255) [])) area.now dec result.values result.dec 27 }
+fn segment_probs_if(dec: &mut BoolDecoder, on: bool, old: [u8; 3]) -> [u8; 3]
+    requires { Room dec.old 27 }
+    ensures { Ran (onto old (when on (anew 3 (lit 8) 255) [])) dec.old result dec.new 27 }
 {
-    if on {
-        bytes_or(area, dec, [255; 3])
-    } else {
-        ThreeBytes { values: old, dec }
-    }
+    if on { bytes_or(dec, [255; 3]) } else { old }
 }
 
 // The feature data, written over those of a record.
-fn feature_data(area: &[u8], dec: BoolDecoder, seg: Segmentation) -> FeaturesRead
-    requires { Good area.now dec 69 }
-    ensures { Ran (make (λ f. featured f seg) features) area.now dec result.segmentation result.dec 69 }
+fn feature_data(dec: &mut BoolDecoder, seg: Segmentation) -> Segmentation
+    requires { Room dec.old 69 }
+    ensures { Ran (make (λ f. featured f seg) features) dec.old result dec.new 69 }
 {
-    let mode = dec.read_flag(area);
-    let quantizers = sints_or(area, mode.dec, 7, [0; 4]);
-    let levels = sints_or(area, quantizers.dec, 6, [0; 4]);
-    let quantizer_update_value = quantizers.values;
-    let lf_update_value = levels.values;
     let mut segmentation = seg;
-    segmentation.segment_feature_mode = mode.bit;
-    segmentation.quantizer_update_value = quantizer_update_value;
-    segmentation.lf_update_value = lf_update_value;
-    let after = levels.dec;
-    FeaturesRead {
-        segmentation,
-        dec: after,
-    }
+    segmentation.segment_feature_mode = dec.read_flag();
+    segmentation.quantizer_update_value = sints_or(dec, 7, [0; 4]);
+    segmentation.lf_update_value = sints_or(dec, 6, [0; 4]);
+    segmentation
 }
 
 // The same where `on` is set.
-fn feature_data_if(area: &[u8], dec: BoolDecoder, on: bool, seg: Segmentation) -> FeaturesRead
-    requires { Good area.now dec 69 }
-    ensures { Ran (make (λ f. featured f seg) (features_if on)) area.now dec result.segmentation result.dec 69 }
+fn feature_data_if(dec: &mut BoolDecoder, on: bool, seg: Segmentation) -> Segmentation
+    requires { Room dec.old 69 }
+    ensures { Ran (make (λ f. featured f seg) (features_if on)) dec.old result dec.new 69 }
 {
-    if on {
-        feature_data(area, dec, seg)
-    } else {
-        FeaturesRead {
-            segmentation: seg,
-            dec,
-        }
-    }
+    if on { feature_data(dec, seg) } else { seg }
 }
 
 // Whether the probabilities are coded: where the map is; to the Rust only where the feature data are too.
@@ -88,33 +50,21 @@ fn probs_coded(mode: Mode, map: bool, feature: bool) -> bool
 
 // update_segmentation() of section 19.2.
 pub fn update_segmentation(
-    area: &[u8],
-    dec: BoolDecoder,
+    dec: &mut BoolDecoder,
     seg: Segmentation,
     mode: Mode,
-) -> SegmentationRead
-    requires { Good area.now dec 99 }
-    ensures { Passed (make (λ c. segmented c seg) (segments mode))
-        area.now dec result.segmentation result.past result.dec 99 }
+) -> Read<Segmentation>
+    requires { Room dec.old 99 }
+    ensures { Passed (make (λ c. segmented c seg) (segments mode)) dec.old result.value result.past dec.new 99 }
 {
-    let enabled = dec.read_flag(area);
-    let map = flag_if(area, enabled.dec, enabled.bit);
-    let feature = flag_if(area, map.dec, enabled.bit);
-    let features = feature_data_if(area, feature.dec, feature.bit, seg);
-    let old = seg.segment_prob;
-    let coded = probs_coded(mode, map.bit, feature.bit);
-    let probs = segment_probs_if(area, features.dec, coded, old);
-    let segment_prob = probs.values;
-    let mut segmentation = features.segmentation;
-    segmentation.segmentation_enabled = enabled.bit;
-    segmentation.update_mb_segmentation_map = map.bit;
-    segmentation.update_segment_feature_data = feature.bit;
-    segmentation.segment_prob = segment_prob;
-    let after = probs.dec;
-    let past = after.past(area);
-    SegmentationRead {
-        segmentation,
-        past,
-        dec: after,
-    }
+    let enabled = dec.read_flag();
+    let map = dec.flag_if(enabled);
+    let feature = dec.flag_if(enabled);
+    let mut segmentation = feature_data_if(dec, feature, seg);
+    let coded = probs_coded(mode, map, feature);
+    segmentation.segmentation_enabled = enabled;
+    segmentation.update_mb_segmentation_map = map;
+    segmentation.update_segment_feature_data = feature;
+    segmentation.segment_prob = segment_probs_if(dec, coded, seg.segment_prob);
+    dec.with_past(segmentation)
 }

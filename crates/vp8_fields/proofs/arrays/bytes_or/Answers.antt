@@ -1,21 +1,25 @@
--- The loop over three numbers: `Each`, and the definition's reads by `loop_times`.
+-- The loop over the numbers: `Each`, and the definition's reads by `loop_times`.
 use native.Mathlib.Omega.{arith}
 use mathlib.Core.Path.{◌≡◌, refl}
 use lib.ListN.{length}
 use borrow.Author.Rules.{rules}
-use Rattle.bool_decoder.proofs.Each.{begin, turn, end}
+use Rattle.bool_decoder.proofs.Each.{begin, room, next, end}
 use Rattle.bool_decoder.proofs.Made.{same}
 use Rattle.vp8_fields.proofs.InPlace.{loop_times}
 use Rattle.vp8_fields.proofs.arrays.bytes_or.Goals as goal
 
-pub loop-i-init : goal.loop-i-init
-loop-i-init c = begin _ c.requires.over
+pub loop-value-init : goal.loop-value-init
+loop-value-init g c = begin _ refl
 
-pub loop-i-preserved : goal.loop-i-preserved
-loop-i-preserved c = let l = c.loop-i in
-    let n : length l.values ≡ 3 = search rules in
-    turn _ 0 l.invariant (omega (arith, l.invariant.same)) c.byte_or-n.ensures
+pub byte_or-requires : goal.byte_or-requires
+byte_or-requires g c = room _ c.loop-value.invariant c.loop-value-test.true c.requires
+
+pub loop-value-preserved : goal.loop-value-preserved
+loop-value-preserved g c =
+    let n : length c.args.old ≡ g.row.N = search rules in
+    next _ 0 c.loop-value.invariant (omega (arith, c.loop-value-test.true, n)) c.byte_or.ensures
 
 pub returns : goal.returns
-returns c = let n : length c.args.old ≡ 3 = search rules in
-    same (loop_times _ _ (λ i x. refl) 3 _ n) (end _ c.loop-i.invariant n c.loop-i-test.false)
+returns g c =
+    let n : length c.args.old ≡ g.row.N = search rules in
+    same (loop_times _ _ (λ i x. refl) g.row.N _ n) (end _ c.loop-value.invariant n c.loop-value-test.false)

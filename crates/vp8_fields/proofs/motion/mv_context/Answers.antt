@@ -3,7 +3,7 @@ use native.Mathlib.Omega.{arith}
 use mathlib.Core.Path.{◌≡◌, refl}
 use lib.ListN.{length}
 use borrow.Author.Rules.{rules}
-use Rattle.bool_decoder.proofs.Each.{begin, turn, end}
+use Rattle.bool_decoder.proofs.Each.{begin, room, next, end}
 use lib.Seq.{take_all}
 use Rattle.vp8_probs.specs.Tables.{mv_update}
 use Rattle.vp8_records.specs.Layout.{laid_mv_context}
@@ -13,12 +13,15 @@ use Rattle.bool_decoder.proofs.Made.{same, worth, makes}
 use Rattle.vp8_fields.proofs.motion.mv_context.Goals as goal
 
 pub loop-j-init : goal.loop-j-init
-loop-j-init c = begin _ c.requires.2.over
+loop-j-init c = begin _ refl
+
+pub mv_or-requires : goal.mv_or-requires
+mv_or-requires c = room _ c.loop-j.invariant c.loop-j-test.true c.requires.2
 
 pub loop-j-preserved : goal.loop-j-preserved
-loop-j-preserved c = let l = c.loop-j in
+loop-j-preserved c =
     let n : length c.args.row.v ≡ 19 = search rules in
-    turn _ 0 l.invariant (omega arith) (rw c.requires.0 at c.mv_or-n.ensures)
+    next _ 0 c.loop-j.invariant (omega arith) (rw c.requires.0 at c.mv_or.ensures)
 
 pub returns : goal.returns
 unfolding mv_update

@@ -1,6 +1,6 @@
-use Prim.Native.Nat.{◌+◌, ◌-◌}
+use Prim.Native.Nat.{◌+◌}
 use lib.ListN.{get_or}
-use Rattle.bool_decoder.proofs.Each.{Turn}
+use Rattle.bool_decoder.proofs.Each.{Turns}
 use Rattle.vp8_probs.specs.Tables.{mv_update}
 use Rattle.rfc6386.specs.Reads.{make}
 use Rattle.rfc6386.specs.Runs.{or}
@@ -8,7 +8,5 @@ use Rattle.vp8_fields.specs.Rows.{coded_mv}
 use Rattle.vp8_fields.proofs.motion.mv_context.Given as goal
 
 abbrev pub invariant-loop-j : goal.invariant-loop-j
-invariant-loop-j l = Turn (λ i x. make (λ u. or u x) (coded_mv (get_or mv_update (l.at + i) 0))) l.area 8 l.initial.next l.initial.out.v l.out.v l.next l.j
-
-abbrev pub decreases-loop-j : goal.decreases-loop-j
-decreases-loop-j l = 19 - l.j
+invariant-loop-j l =
+    Turns (λ i x. make (λ u. or u x) (coded_mv (get_or mv_update (l.at + i) 0))) 8 l.fn.dec l.fn.row.v l.out.v l.dec l.j
