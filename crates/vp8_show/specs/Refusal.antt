@@ -10,7 +10,7 @@ use Rattle.text.specs.Template.{filled}
 use Rattle.vp8_flat.specs.Numbers.{look_of}
 
 -- what refusal n carries, each number after its word
-unfoldable pub carried_text : List ℕ → List ℕ → List ℕ → ℕ → List ℕ → List ℕ
+abbrev pub carried_text : List ℕ → List ℕ → List ℕ → ℕ → List ℕ → List ℕ
 carried_text code end length n cs =
     cond (eqb n 2) (code ++ decimal_of (get_or cs 0 0))
     (cond (eqb n 3) ((end ++ decimal_of (get_or cs 0 0)) ++ (length ++ decimal_of (get_or cs 1 0))) [])
