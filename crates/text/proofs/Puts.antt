@@ -37,6 +37,9 @@ pub puts_nil : (t : Text) → puts t [] ≡ t
 unfolding puts
 puts_nil t = refl
 
+-- one writer after another
+pub ruleset writes = (puts_append, puts_cons, puts_nil)
+
 -- a turn of the loop
 pub puts_turn : (t u v : Text) (xs : List ℕ) (i : ℕ) → i < length xs → u ≡ puts t (take i xs) → v ≡ put u (get_or xs i 0)
     → v ≡ puts t (take (i + 1) xs)

@@ -46,7 +46,7 @@ pub fn put_motion<const N: usize>(out: &mut Text<N>, motion: MvProbs)
 }
 
 // The seven mode probabilities (section 16.2).
-#[tactic(auto, using(text::proofs::Puts::puts_append, text::proofs::Puts::puts_cons))]
+#[tactic(auto, using(text::proofs::Puts::writes))]
 pub fn put_modes<const N: usize>(out: &mut Text<N>, modes: ModeProbs)
     ensures { out.new ≡ puts out.old (flat_modes modes) }
 {
@@ -55,7 +55,7 @@ pub fn put_modes<const N: usize>(out: &mut Text<N>, modes: ModeProbs)
 }
 
 // Segmentation (section 9.3).
-#[tactic(auto, using(text::proofs::Puts::puts_append, text::proofs::Puts::puts_cons))]
+#[tactic(auto, using(text::proofs::Puts::writes))]
 pub fn put_segmentation<const N: usize>(out: &mut Text<N>, s: Segmentation)
     ensures { out.new ≡ puts out.old (segmentation_bytes s) }
 {
@@ -69,7 +69,7 @@ pub fn put_segmentation<const N: usize>(out: &mut Text<N>, s: Segmentation)
 }
 
 // The filter's adjustments (section 9.4).
-#[tactic(auto, using(text::proofs::Puts::puts_append, text::proofs::Puts::puts_cons))]
+#[tactic(auto, using(text::proofs::Puts::writes))]
 pub fn put_adjustments<const N: usize>(out: &mut Text<N>, a: MbLfAdjustments)
     ensures { out.new ≡ puts out.old (adjustment_bytes a) }
 {

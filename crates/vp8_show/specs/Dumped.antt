@@ -1,10 +1,11 @@
 -- A line of the dump, without its end: `ok` and every number of the header, or `err` and the refusal, and the kept numbers after the call.
 -- Numbers are decimal, probabilities and kept numbers two hexadecimal digits each.
-use Rattle.std.specs.Prelude.{ℕ, cond, List, ◌++◌, eqb, ℤ}
+use Rattle.std.specs.Prelude.{ℕ, cond, List, ◌++◌, eqb, ℤ, Result}
 use Rattle.vp8_records.specs.declared.QuantIndices.{QuantIndices}
 use Rattle.vp8_records.specs.declared.Header.{Header}
 use Rattle.vp8_records.specs.declared.Parsed.{Parsed}
-use Rattle.vp8_records.specs.declared.Peeked.{Peeked}
+use Rattle.vp8_records.specs.declared.Look.{Look}
+use Rattle.vp8_records.specs.declared.PeekRefusal.{PeekRefusal}
 use Rattle.vp8_records.specs.Outcome.{number_of}
 use Rattle.vp8_records.specs.Layout.{flat_coeffs, flat_mv}
 use Rattle.text.specs.Digits.{hex_of, decimal_of, signed_of}
@@ -56,5 +57,5 @@ unfoldable pub dumped : Parsed → List ℕ
 dumped p = answer_text p ++ (ascii " st=" ++ hex_of (kept_bytes p.parser))
 
 -- the line of a look, without its end; a look keeps nothing, so no kept numbers follow
-unfoldable pub dumped_look : Peeked → List ℕ
+unfoldable pub dumped_look : Result Look PeekRefusal → List ℕ
 dumped_look r = look_text (ascii "peek key=| ver=| show=| first=| w=| h=| hs=| vs=|") (ascii "peek err ") (ascii " code=") r

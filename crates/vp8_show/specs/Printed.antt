@@ -1,9 +1,10 @@
 -- What the printing program prints of an answer: of an accepted frame what it is, and where each partition stands in it; of a refused one
 -- its number and what 2 and 3 carry. Flags are 0 or 1, numbers decimal.
-use Rattle.std.specs.Prelude.{ℕ, ◌+◌, ◌-◌, ◌*◌, cond, List, [], ◌∷◌, ◌++◌, eqb, take}
+use Rattle.std.specs.Prelude.{ℕ, ◌+◌, ◌-◌, ◌*◌, cond, List, [], ◌∷◌, ◌++◌, eqb, take, Result}
 use Rattle.vp8_records.specs.declared.Header.{Header}
 use Rattle.vp8_records.specs.declared.Parsed.{Parsed}
-use Rattle.vp8_records.specs.declared.Peeked.{Peeked}
+use Rattle.vp8_records.specs.declared.Look.{Look}
+use Rattle.vp8_records.specs.declared.PeekRefusal.{PeekRefusal}
 use Rattle.vp8_records.specs.Outcome.{number_of}
 use Rattle.text.specs.Template.{ascii, filled}
 use Rattle.text.specs.Lines.{numbered}
@@ -52,5 +53,5 @@ unfoldable pub printed_at : ℕ → Parsed → List ℕ
 printed_at index p = numbered index (take 1024 (printed p))
 
 -- what the looking program prints
-unfoldable pub printed_look : Peeked → List ℕ
+unfoldable pub printed_look : Result Look PeekRefusal → List ℕ
 printed_look r = look_text (ascii "key | version | show | first | size |x| scale |x|") (ascii "refused ") (ascii " code ") r ++ ascii "\n"

@@ -1,145 +1,104 @@
 // The line of the dump: `ok` and every number of the header, or `err` and the refusal, and at the end the kept numbers after the call.
 ghost use Rattle.std.specs.Prelude.{◌≡◌, ◌++◌};
-ghost use Rattle.text.specs.Text.{text, puts};
+ghost use Rattle.text.specs.Text.{puts};
 ghost use Rattle.text.specs.Digits.{hex_of};
-ghost use Rattle.vp8_show.specs.Dumped.{shape_text, delta_text, quant_text, flags_text};
-ghost use Rattle.vp8_show.specs.Dumped.{probs_text, tail_text, header_text, answer_text, dumped, dumped_look};
+ghost use Rattle.vp8_show.specs.Dumped.{delta_text, quant_text, probs_text, header_text, answer_text, dumped, dumped_look};
 
-use crate::{looked, named, refused, wide8};
-use vp8_records::{Header, Parsed, Peeked, QuantIndices};
+use crate::{Words, looked, named, refused};
+use text::Text;
+use vp8_flat::header::{flags, shape, tail};
+use vp8_records::{Header, Look, Parsed, PeekRefusal, QuantIndices};
 
-// The tag, the sizes, the filter and the partitions.
-fn shape(out: &mut [u8], at: usize, h: Header) -> usize
-    ensures { text out.new result ≡ puts (text out.old at) (shape_text h) }
-{
-    let shape = vp8_flat::header::shape(h);
-    let sizes = h.partition_size;
-    let to = text::fill(
-        out,
-        at,
-        b" key=| ver=| show=| chunk=| first=| w=| h=| hs=| vs=| cs=| ct=| ft=| lvl=| sharp=| n=| log2=|",
-        &shape,
-    );
-    text::fill(out, to, b" parts=|,|,|,|,|,|,|,|", &sizes)
-}
-
-fn wide_signed(z: i8) -> i32
-    ensures { result ≡ z }
-{
-    z as i32
-}
+const WORDS: Words<'static> = Words {
+    refused: b"err ",
+    code: b" code=",
+    end: b" end=",
+    length: b" length=",
+    seen: b"key=| ver=| show=| first=| w=| h=| hs=| vs=|",
+};
 
 // A delta with its sign, after a comma.
-fn delta(out: &mut [u8], at: usize, z: i8) -> usize
-    ensures { text out.new result ≡ puts (text out.old at) (delta_text z) }
+fn delta<const N: usize>(out: &mut Text<N>, z: i8)
+    ensures { out.new ≡ puts out.old (delta_text z) }
 {
-    let to = text::byte(out, at, b',');
-    text::signed(out, to, wide_signed(z))
+    out.byte(b',');
+    out.signed(i32::from(z));
 }
 
 // The quantizer index and the five deltas.
-fn quantizer(out: &mut [u8], at: usize, q: QuantIndices) -> usize
-    ensures { text out.new result ≡ puts (text out.old at) (quant_text q) }
+fn quantizer<const N: usize>(out: &mut Text<N>, q: QuantIndices)
+    ensures { out.new ≡ puts out.old (quant_text q) }
 {
-    let to = named(out, at, b" q=", wide8(q.y_ac_qi));
-    let to = delta(out, to, q.y_dc_delta);
-    let to = delta(out, to, q.y2_dc_delta);
-    let to = delta(out, to, q.y2_ac_delta);
-    let to = delta(out, to, q.uv_dc_delta);
-    delta(out, to, q.uv_ac_delta)
-}
-
-// What the frame refreshes and copies, and its single probabilities.
-fn flags(out: &mut [u8], at: usize, h: Header) -> usize
-    ensures { text out.new result ≡ puts (text out.old at) (flags_text h) }
-{
-    let flags = vp8_flat::header::flags(h);
-    text::fill(
-        out,
-        at,
-        b" rep=| rl=| rg=| ra=| cg=| ca=| sg=| sa=| skip=| psf=| pi=| pl=| pg=|",
-        &flags,
-    )
+    named(out, b" q=", u64::from(q.y_ac_qi));
+    delta(out, q.y_dc_delta);
+    delta(out, q.y2_dc_delta);
+    delta(out, q.y2_ac_delta);
+    delta(out, q.uv_dc_delta);
+    delta(out, q.uv_ac_delta);
 }
 
 // A name, then bytes as hexadecimal digits.
-fn named_bytes(out: &mut [u8], at: usize, name: &[u8], bytes: &[u8]) -> usize
-    ensures { text out.new result ≡ puts (text out.old at) (name.now ++ hex_of bytes.now) }
+fn named_bytes<const N: usize>(out: &mut Text<N>, name: &[u8], bytes: &[u8])
+    ensures { out.new ≡ puts out.old (name.now ++ hex_of bytes.now) }
 {
-    let to = text::bytes(out, at, name);
-    text::hex(out, to, bytes)
+    out.bytes(name);
+    out.hex(bytes);
 }
 
-fn probabilities(out: &mut [u8], at: usize, h: Header) -> usize
-    ensures { text out.new result ≡ puts (text out.old at) (probs_text h) }
+fn probabilities<const N: usize>(out: &mut Text<N>, h: Header)
+    ensures { out.new ≡ puts out.old (probs_text h) }
 {
-    let mode_probs = h.mode_probs;
-    let mv_prob = h.mv_prob;
-    let coeff_prob = h.coeff_prob;
-    let modes = vp8_flat::modes(mode_probs);
-    let motion = vp8_flat::motion(mv_prob);
-    let coeffs = vp8_flat::coeffs(coeff_prob);
-    let to = named_bytes(out, at, b" modes=", &modes);
-    let to = named_bytes(out, to, b" mv=", &motion);
-    named_bytes(out, to, b" coeff=", &coeffs)
+    named_bytes(out, b" modes=", &vp8_flat::modes(h.mode_probs));
+    named_bytes(out, b" mv=", &vp8_flat::motion(h.mv_prob));
+    named_bytes(out, b" coeff=", &vp8_flat::coeffs(h.coeff_prob));
 }
 
-// The decoder's snapshot, and what follows from the whole header.
-fn tail(out: &mut [u8], at: usize, h: Header) -> usize
-    ensures { text out.new result ≡ puts (text out.old at) (tail_text h) }
+// In this order: the tag, the sizes, the filter and the partitions; the quantizer; what the frame refreshes and copies, and its single
+// probabilities; the others; the decoder's snapshot, and what follows from the whole header.
+fn header<const N: usize>(out: &mut Text<N>, h: Header)
+    ensures { out.new ≡ puts out.old (header_text h) }
 {
-    let tail = vp8_flat::header::tail(h);
-    text::fill(
-        out,
-        at,
+    out.bytes(b"ok");
+    out.fill(
+        b" key=| ver=| show=| chunk=| first=| w=| h=| hs=| vs=| cs=| ct=| ft=| lvl=| sharp=| n=| log2=|",
+        &shape(h),
+    );
+    out.fill(b" parts=|,|,|,|,|,|,|,|", &h.partition_size);
+    quantizer(out, h.quant_indices);
+    out.fill(
+        b" rep=| rl=| rg=| ra=| cg=| ca=| sg=| sa=| skip=| psf=| pi=| pl=| pg=|",
+        &flags(h),
+    );
+    probabilities(out, h);
+    out.fill(
         b" range=| value=| count=| hsize=| bools=| cols=| rows=| past=|",
-        &tail,
-    )
+        &tail(h),
+    );
 }
 
-fn header(out: &mut [u8], at: usize, h: Header) -> usize
-    ensures { text out.new result ≡ puts (text out.old at) (header_text h) }
+#[tactic(auto, using(text::proofs::Puts::writes), unfolding(crate::specs::Dumped::answer_text))]
+fn answer<const N: usize>(out: &mut Text<N>, parsed: Parsed)
+    ensures { out.new ≡ puts out.old (answer_text parsed) }
 {
-    let indices = h.quant_indices;
-    let to = text::bytes(out, at, b"ok");
-    let to = shape(out, to, h);
-    let to = quantizer(out, to, indices);
-    let to = flags(out, to, h);
-    let to = probabilities(out, to, h);
-    tail(out, to, h)
-}
-
-fn answer(out: &mut [u8], at: usize, parsed: Parsed) -> usize
-    ensures { text out.new result ≡ puts (text out.old at) (answer_text parsed) }
-{
-    let outcome = parsed.outcome;
-    if outcome.number() == 0 {
-        let accepted = parsed.header;
-        return header(out, at, accepted);
+    match parsed.outcome {
+        Ok(()) => header(out, parsed.header),
+        Err(refusal) => refused(out, &WORDS, refusal),
     }
-    refused(out, at, outcome, b"err ", b" code=", b" end=", b" length=")
 }
 
 // The line of an answer, without its end; under 6,000 bytes.
-pub fn line(out: &mut [u8], at: usize, parsed: Parsed) -> usize
-    ensures { text out.new result ≡ puts (text out.old at) (dumped parsed) }
+#[tactic(auto, using(text::proofs::Puts::writes), unfolding(crate::specs::Dumped::dumped))]
+pub fn line<const N: usize>(out: &mut Text<N>, parsed: Parsed)
+    ensures { out.new ≡ puts out.old (dumped parsed) }
 {
-    let parser = parsed.parser;
-    let kept = vp8_flat::kept(parser);
-    let to = answer(out, at, parsed);
-    named_bytes(out, to, b" st=", &kept)
+    answer(out, parsed);
+    named_bytes(out, b" st=", &vp8_flat::kept(parsed.parser));
 }
 
 // The line of a look, without its end; under 256 bytes.
-pub fn look(out: &mut [u8], at: usize, peeked: Peeked) -> usize
-    ensures { text out.new result ≡ puts (text out.old at) (dumped_look peeked) }
+pub fn look<const N: usize>(out: &mut Text<N>, peeked: Result<Look, PeekRefusal>)
+    ensures { out.new ≡ puts out.old (dumped_look peeked) }
 {
-    looked(
-        out,
-        at,
-        peeked,
-        b"peek key=| ver=| show=| first=| w=| h=| hs=| vs=|",
-        b"peek err ",
-        b" code=",
-    )
+    out.bytes(b"peek ");
+    looked(out, &WORDS, peeked);
 }

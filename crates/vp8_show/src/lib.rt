@@ -1,99 +1,65 @@
 // What the programs over whole frames share: frames from standard input, and an answer in words. `print` has the lines of the printing
-// program, `dump` a line with every number of the answer and of the parser after it. Both put their text at any place of a lent buffer.
-#![tactic(auto)]
+// program, `dump` a line with every number of the answer and of the parser after it. Both put their text after what is in a `Text`.
+#![tactic(auto, using(text::proofs::Puts::writes))]
 
 pub mod dump;
 pub mod input;
 pub mod print;
 
-ghost use Rattle.std.specs.Prelude.{◌≡◌, [], ◌∷◌, ◌++◌, ◌<◌};
-ghost use Rattle.text.specs.Text.{text, puts};
+ghost use Rattle.std.specs.Prelude.{Err, ◌≡◌, ◌++◌};
+ghost use Rattle.text.specs.Text.{puts};
 ghost use Rattle.text.specs.Digits.{decimal_of};
-ghost use Rattle.vp8_show.specs.Refusal.{carried_text, refusal_text, look_text};
+ghost use Rattle.vp8_show.specs.Refusal.{refusal_text, look_text};
 
-use vp8_flat::header::Carried;
-use vp8_records::{Outcome, Peeked};
+use text::Text;
+use vp8_records::{Look, PeekRefusal, Refusal};
 
-fn wide(n: u32) -> u64
-    ensures { (result ≡ n) × (result < 4294967296) }
-{
-    n as u64
-}
-
-fn wide8(n: u8) -> u64
-    ensures { (result ≡ n) × (result < 256) }
-{
-    n as u64
+// The words of a refusal and the template of a look, as one of the programs has them.
+#[derive(Clone, Copy)]
+struct Words<'a> {
+    // Before the refusal's number.
+    refused: &'a [u8],
+    // Before what 2 carries.
+    code: &'a [u8],
+    // Before the two numbers that 3 carries.
+    end: &'a [u8],
+    length: &'a [u8],
+    // What a look saw.
+    seen: &'a [u8],
 }
 
 // A word, then a number.
-fn named(out: &mut [u8], at: usize, word: &[u8], n: u64) -> usize
-    ensures { text out.new result ≡ puts (text out.old at) (word.now ++ decimal_of n) }
+fn named<const N: usize>(out: &mut Text<N>, word: &[u8], n: u64)
+    ensures { out.new ≡ puts out.old (word.now ++ decimal_of n) }
 {
-    let to = text::bytes(out, at, word);
-    text::decimal(out, to, n)
+    out.bytes(word);
+    out.decimal(n);
 }
 
-// What 2 and 3 carry, each number after its word.
-fn carried(
-    out: &mut [u8],
-    at: usize,
-    refusal: Carried,
-    code: &[u8],
-    end: &[u8],
-    length: &[u8],
-) -> usize
-    ensures { text out.new result ≡ puts (text out.old at)
-        (carried_text code.now end.now length.now refusal.number (refusal.a ∷ refusal.b ∷ [])) }
+// A refusal: its number, and what 2 and 3 carry.
+#[tactic(auto, using(text::proofs::Puts::writes), unfolding(crate::specs::Refusal::refusal_text))]
+fn refused<const N: usize>(out: &mut Text<N>, words: &Words, refusal: Refusal)
+    ensures { out.new ≡ puts out.old
+        (refusal_text words.now.refused.now words.now.code.now words.now.end.now words.now.length.now (Err refusal)) }
 {
-    if refusal.number == 2 {
-        return named(out, at, code, refusal.a);
+    named(out, words.refused, u64::from(refusal.number()));
+    match refusal {
+        Refusal::InvalidStartCode(code) => named(out, words.code, u64::from(code)),
+        Refusal::InvalidPartitionSize(end, length) => {
+            named(out, words.end, end as u64);
+            named(out, words.length, length as u64);
+        }
+        _ => {}
     }
-    if refusal.number == 3 {
-        let to = named(out, at, end, refusal.a);
-        return named(out, to, length, refusal.b);
-    }
-    at
 }
 
-// A refusal: its number after `word`, and what it carries.
-fn refused(
-    out: &mut [u8],
-    at: usize,
-    outcome: Outcome,
-    word: &[u8],
-    code: &[u8],
-    end: &[u8],
-    length: &[u8],
-) -> usize
-    ensures { text out.new result ≡ puts (text out.old at)
-        (refusal_text word.now code.now end.now length.now outcome) }
-{
-    let refusal = vp8_flat::header::refusal(outcome);
-    let to = named(out, at, word, wide(refusal.number));
-    carried(out, to, refusal, code, end, length)
-}
-
-// What a look saw, by a template; or its refusal.
-fn looked(
-    out: &mut [u8],
-    at: usize,
-    peeked: Peeked,
-    template: &[u8],
-    word: &[u8],
-    code: &[u8],
-) -> usize
-    ensures { text out.new result ≡ puts (text out.old at)
-        (look_text template.now word.now code.now peeked) }
+// What a look saw, or its refusal.
+#[tactic(auto, using(text::proofs::Puts::writes), unfolding(crate::specs::Refusal::look_text, crate::specs::Refusal::refusal_text))]
+fn looked<const N: usize>(out: &mut Text<N>, words: &Words, peeked: Result<Look, PeekRefusal>)
+    ensures { out.new ≡ puts out.old (look_text words.now.seen.now words.now.refused.now words.now.code.now peeked) }
 {
     match peeked {
-        Peeked::Seen(look) => {
-            let numbers = vp8_flat::header::look(look);
-            text::fill(out, at, template, &numbers)
-        }
-        Peeked::TooShort => refused(out, at, Outcome::ChunkTooShort, word, code, b"", b""),
-        Peeked::StartCode(n) => {
-            refused(out, at, Outcome::InvalidStartCode(n), word, code, b"", b"")
-        }
+        Ok(look) => out.fill(words.seen, &vp8_flat::header::look(look)),
+        Err(refusal) => refused(out, words, Refusal::from(refusal)),
     }
 }

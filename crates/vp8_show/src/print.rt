@@ -1,138 +1,125 @@
 // The lines of the printing program: what an accepted frame is, and where each of its partitions stands; or the refusal.
-ghost use Rattle.std.specs.Prelude.{◌≡◌, ◌-◌, ◌*◌, ◌≤◌, take};
-ghost use Rattle.text.specs.Text.{text, puts};
+ghost use Rattle.std.specs.Prelude.{◌≡◌, ◌-◌, ◌*◌, ◌≤◌, length, take};
+ghost use Rattle.text.specs.Text.{puts};
 ghost use Rattle.vp8_flat.specs.Numbers.{partition_count};
-ghost use Rattle.vp8_show.specs.Printed.{frame_line, partition_line, partition_lines, first_start, accepted_text, printed, printed_at, printed_look};
+ghost use Rattle.vp8_show.specs.Printed.{frame_line, partition_line, partition_lines, first_start, accepted_text};
+ghost use Rattle.vp8_show.specs.Printed.{printed, printed_at, printed_look};
 
-use crate::{looked, named, refused, wide, wide8};
-use vp8_records::{Header, Parsed, Peeked};
+use crate::{Words, looked, named, refused};
+use text::Text;
+use vp8_flat::header::partitions;
+use vp8_records::{Header, Look, Parsed, PeekRefusal};
+
+const WORDS: Words<'static> = Words {
+    refused: b"refused ",
+    code: b" code ",
+    end: b" end ",
+    length: b" length ",
+    seen: b"key | version | show | first | size |x| scale |x|",
+};
 
 // The first line: what the frame is.
-fn frame_line(out: &mut [u8], at: usize, h: Header) -> usize
-    ensures { text out.new result ≡ puts (text out.old at) (frame_line h) }
+fn frame_line<const N: usize>(out: &mut Text<N>, h: Header)
+    ensures { out.new ≡ puts out.old (frame_line h) }
 {
-    let s = vp8_flat::header::shape(h);
-    let values = [s[0], s[1], s[2], s[3], s[4], s[5], s[6], s[14], h.bools];
-    text::fill(
-        out,
-        at,
+    out.fill(
         b"accepted key | version | show | chunk | first | size |x| parts | bools |\n",
-        &values,
-    )
+        &[
+            u32::from(h.key_frame),
+            u32::from(h.version),
+            u32::from(h.show_frame),
+            u32::from(h.data_chunk_size),
+            h.first_part_size,
+            u32::from(h.width),
+            u32::from(h.height),
+            partitions(h.log2_nbr_of_dct_partitions),
+            h.bools,
+        ],
+    );
 }
 
 // The line of a partition.
-fn partition_line(out: &mut [u8], at: usize, index: u64, start: u64, length: u64) -> usize
-    ensures { text out.new result ≡ puts (text out.old at) (partition_line index start length) }
+fn partition_line<const N: usize>(out: &mut Text<N>, index: u64, start: u64, length: u64)
+    ensures { out.new ≡ puts out.old (partition_line index start length) }
 {
-    let to = named(out, at, b"part ", index);
-    let to = named(out, to, b" start ", start);
-    let to = named(out, to, b" length ", length);
-    text::byte(out, to, b'\n')
+    named(out, b"part ", index);
+    named(out, b" start ", start);
+    named(out, b" length ", length);
+    out.byte(b'\n');
 }
 
 // Each partition begins where the one before it ends.
-fn partition_lines(out: &mut [u8], at: usize, sizes: [u32; 8], count: usize, start: u64) -> usize
-    requires { (count ≤ 8) × (start ≤ 8589934592) }
-    ensures { text out.new result ≡ puts (text out.old at) (partition_lines 0 start (take count sizes)) }
+fn partition_lines<const N: usize>(out: &mut Text<N>, sizes: &[u32], start: u64)
+    requires few { length sizes.now ≤ 8 }
+    requires low { start ≤ 8589934592 }
+    ensures { out.new ≡ puts out.old (partition_lines 0 start sizes.now) }
 {
-    let mut to = at;
     let mut from = start;
-    let mut i: usize = 0;
-    while i < count {
-        let length = wide(sizes[i]);
-        to = partition_line(out, to, i as u64, from, length);
+    for (i, &size) in sizes.iter().enumerate() {
+        let length = u64::from(size);
+        partition_line(out, i as u64, from, length);
         from += length;
-        i += 1;
     }
-    to
 }
 
-fn index(n: u32) -> usize
-    ensures { result ≡ n }
-{
-    n as usize
-}
-
-// The bytes that code the sizes: three for each partition but the last.
-fn size_bytes(log2: u8) -> u64
-    ensures { (result ≡ 3 * (partition_count log2 - 1)) × (result ≤ 21) }
-{
-    3 * (wide(vp8_flat::header::partitions(log2)) - 1)
-}
-
+// Where the first partition begins: behind the bytes that code the sizes, three for each partition but the last.
 fn first_start(h: Header) -> u64
     ensures { (result ≡ first_start h) × (result ≤ 8589934592) }
 {
-    wide8(h.data_chunk_size) + wide(h.first_part_size) + size_bytes(h.log2_nbr_of_dct_partitions)
+    let size_bytes = 3 * (partitions(h.log2_nbr_of_dct_partitions) - 1);
+    u64::from(h.data_chunk_size) + u64::from(h.first_part_size) + u64::from(size_bytes)
 }
 
-fn accepted(out: &mut [u8], at: usize, h: Header) -> usize
-    ensures { text out.new result ≡ puts (text out.old at) (accepted_text h) }
+#[tactic(auto, using(text::proofs::Puts::writes), unfolding(crate::specs::Printed::accepted_text))]
+fn accepted<const N: usize>(out: &mut Text<N>, h: Header)
+    ensures { out.new ≡ puts out.old (accepted_text h) }
 {
-    let sizes = h.partition_size;
-    let partitions = vp8_flat::header::partitions(h.log2_nbr_of_dct_partitions);
-    let count = index(partitions);
-    let start = first_start(h);
-    let to = frame_line(out, at, h);
-    partition_lines(out, to, sizes, count, start)
+    frame_line(out, h);
+    let count = partitions(h.log2_nbr_of_dct_partitions) as usize;
+    partition_lines(out, &h.partition_size[..count], first_start(h));
 }
 
 // The lines of an answer; under 1,024 bytes.
-pub fn answer(out: &mut [u8], at: usize, parsed: Parsed) -> usize
-    ensures { text out.new result ≡ puts (text out.old at) (printed parsed) }
+#[tactic(auto, using(text::proofs::Puts::writes), unfolding(crate::specs::Printed::printed))]
+pub fn answer<const N: usize>(out: &mut Text<N>, parsed: Parsed)
+    ensures { out.new ≡ puts out.old (printed parsed) }
 {
-    let outcome = parsed.outcome;
-    if outcome.number() == 0 {
-        let header = parsed.header;
-        return accepted(out, at, header);
+    match parsed.outcome {
+        Ok(()) => accepted(out, parsed.header),
+        Err(refusal) => {
+            refused(out, &WORDS, refusal);
+            out.byte(b'\n');
+        }
     }
-    let to = refused(
-        out,
-        at,
-        outcome,
-        b"refused ",
-        b" code ",
-        b" end ",
-        b" length ",
-    );
-    text::byte(out, to, b'\n')
 }
 
 // The lines of an answer, on standard output.
 pub fn tell(rt: &impl Print, parsed: Parsed) {
-    let mut out = [0u8; 1024];
-    let end = answer(&mut out, 0, parsed);
-    let _ = lines::show(rt, &out, end);
+    let mut out = Text::<1024>::new();
+    answer(&mut out, parsed);
+    let _ = lines::show(rt, &out);
 }
 
 // The lines of an answer, of which there are under 1,024 bytes, each with an index and a space in front; under 2,048 bytes.
-pub fn numbered(out: &mut [u8], at: usize, index: u64, parsed: Parsed) -> usize
-    ensures { text out.new result ≡ puts (text out.old at) (printed_at index parsed) }
+pub fn numbered<const N: usize>(out: &mut Text<N>, index: u64, parsed: Parsed)
+    ensures { out.new ≡ puts out.old (printed_at index parsed) }
 {
-    let mut lines = [0u8; 1024];
-    let end = answer(&mut lines, 0, parsed);
-    text::number_lines(out, at, index, text::part(&lines, end))
+    let mut lines = Text::<1024>::new();
+    answer(&mut lines, parsed);
+    out.number_lines(index, lines.as_bytes());
 }
 
 // Those, on standard output.
 pub fn tell_numbered(rt: &impl Print, index: u64, parsed: Parsed) {
-    let mut out = [0u8; 2048];
-    let end = numbered(&mut out, 0, index, parsed);
-    let _ = lines::show(rt, &out, end);
+    let mut out = Text::<2048>::new();
+    numbered(&mut out, index, parsed);
+    let _ = lines::show(rt, &out);
 }
 
 // The line of a look; under 256 bytes.
-pub fn look(out: &mut [u8], at: usize, peeked: Peeked) -> usize
-    ensures { text out.new result ≡ puts (text out.old at) (printed_look peeked) }
+pub fn look<const N: usize>(out: &mut Text<N>, peeked: Result<Look, PeekRefusal>)
+    ensures { out.new ≡ puts out.old (printed_look peeked) }
 {
-    let to = looked(
-        out,
-        at,
-        peeked,
-        b"key | version | show | first | size |x| scale |x|",
-        b"refused ",
-        b" code ",
-    );
-    text::byte(out, to, b'\n')
+    looked(out, &WORDS, peeked);
+    out.byte(b'\n');
 }

@@ -7,6 +7,6 @@ use Rattle.vp8_show.proofs.dump.probabilities.Goals as goal
 
 pub returns : goal.returns
 unfolding probs_text
-returns c = then _ _ _ _ _ (hex_is _ _ (ascii " modes=") _ _ c.named_bytes-to.ensures c.modes-modes.ensures)
-    (then _ _ _ _ _ (hex_is _ _ (ascii " mv=") _ _ c.named_bytes-to-2.ensures c.motion-motion.ensures)
-    (hex_is _ _ (ascii " coeff=") _ _ c.named_bytes.ensures c.coeffs-coeffs.ensures))
+returns g c = then _ _ _ _ _ (hex_is _ _ (ascii " modes=") _ _ c.named_bytes.ensures c.modes.ensures)
+    (then _ _ _ _ _ (hex_is _ _ (ascii " mv=") _ _ c.named_bytes-2.ensures c.motion.ensures)
+    (hex_is _ _ (ascii " coeff=") _ _ c.named_bytes-3.ensures c.coeffs.ensures))

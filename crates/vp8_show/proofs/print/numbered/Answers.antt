@@ -1,9 +1,6 @@
--- The lines to a buffer of their own, and from there with the number in front of each: `numbered_lines` of `Laws`.
-use Prim.Native.Nat.{ℕ}
-use lib.ListN.{length-replicate}
+-- The lines to a text of their own, and from there with the number in front of each: `numbered_lines` of `Laws`.
 use Rattle.vp8_show.proofs.Laws.{numbered_lines}
 use Rattle.vp8_show.proofs.print.numbered.Goals as goal
 
 pub returns : goal.returns
-returns c = numbered_lines _ _ _ _ _ _ _ _ (length-replicate {A = ℕ} 1024 0) c.answer-end.ensures
-    c.part.ensures.0 c.number_lines.ensures
+returns g c = numbered_lines _ _ _ _ _ _ _ c.new-lines.ensures c.answer.ensures c.as_bytes.ensures c.number_lines.ensures

@@ -4,7 +4,6 @@ use Rattle.vp8_show.proofs.Laws.{line_is}
 use Rattle.vp8_show.proofs.print.partition_line.Goals as goal
 
 pub returns : goal.returns
-returns c = worded _ _ _ _
-    (then _ _ _ _ _ c.named-to.ensures
-    (then _ _ _ _ _ c.named-to-2.ensures (then_one _ _ _ _ _ c.named-to-3.ensures c.byte.ensures)))
+returns g c = worded _ _ _ _
+    (then _ _ _ _ _ c.named.ensures (then _ _ _ _ _ c.named-2.ensures (then_one _ _ _ _ _ c.named-3.ensures c.byte.ensures)))
     (line_is _ _ _)

@@ -1,6 +1,0 @@
--- The word, then the digits: `then` of `Puts`.
-use Rattle.text.proofs.Puts.{then}
-use Rattle.vp8_show.proofs.named.Goals as goal
-
-pub returns : goal.returns
-returns c = then _ _ _ _ _ c.bytes-to.ensures c.decimal.ensures
