@@ -10,7 +10,7 @@ use Rattle.rfc6386.specs.Reads.{run}
 use Rattle.rfc6386.specs.Coded.{Coded, header}
 use Rattle.rfc6386.specs.Frame.{Snapshot, snapshot}
 use Rattle.rfc6386.specs.Call.{Probs, probs_of, probs_over, keeping, apply, header_of}
-use Rattle.bool_decoder.specs.Model.{out}
+use Rattle.bool_decoder.specs.Engine.{out}
 use Rattle.vp8_header.specs.declared.DataChunk.{DataChunk}
 use Rattle.vp8_header.specs.declared.First.{First}
 use Rattle.vp8_header.specs.declared.Second.{Second}

@@ -8,12 +8,17 @@ ghost use Rattle.rfc6386.specs.Frame.{pixels, scale, snapshot};
 ghost use Rattle.rfc6386.specs.Reads.{when, make};
 ghost use Rattle.rfc6386.specs.Coded.{refresh, inter, no_inter};
 ghost use Rattle.rfc6386.specs.Call.{keeping, probs_of, blocks};
-ghost use Rattle.bool_decoder.specs.Model.{Good, Ran};
-ghost use Rattle.bool_decoder.specs.Window.{state_of, Over};
+ghost use Rattle.bool_decoder.specs.Model.{state_of, Room, Ran};
 ghost use Rattle.vp8_header.specs.Stages.{first, first_of, refresh_of, second, second_of, inter_of, third, third_of, probs_in};
 ghost use Rattle.vp8_header.specs.Headed.{chunk_of, Heads, headed_of};
 
 use bool_decoder::BoolDecoder;
+use vp8_fields::coefficients::parse_token_prob_update;
+use vp8_fields::deltas::parse_mb_lf_adjustments;
+use vp8_fields::modes::{parse_intra_16x16_prob_update, parse_intra_chroma_prob_update};
+use vp8_fields::motion::parse_mv_prob_update;
+use vp8_fields::quantizer::parse_quant_indices;
+use vp8_fields::segmentation::update_segmentation;
 use vp8_records::{
     CoeffProbs, Header, MbLfAdjustments, Mode, ModeProbs, MvProbs, Parser, QuantIndices,
     Segmentation,
@@ -117,51 +122,6 @@ pub struct Third {
     pub inter: InterFields,
 }
 
-// The first fields, and the decoder after them.
-#[derive(Clone, Copy)]
-pub struct FirstRead {
-    // What was read.
-    pub first: First,
-    // The decoder after it.
-    pub dec: BoolDecoder,
-}
-
-// The refresh flags, and the decoder after them.
-#[derive(Clone, Copy)]
-pub struct RefreshRead {
-    // What was read.
-    pub refresh: RefreshFlags,
-    // The decoder after it.
-    pub dec: BoolDecoder,
-}
-
-// The next fields, and the decoder after them.
-#[derive(Clone, Copy)]
-pub struct SecondRead {
-    // What was read.
-    pub second: Second,
-    // The decoder after it.
-    pub dec: BoolDecoder,
-}
-
-// An inter frame's own fields, and the decoder after them.
-#[derive(Clone, Copy)]
-pub struct InterRead {
-    // What was read.
-    pub inter: InterFields,
-    // The decoder after it.
-    pub dec: BoolDecoder,
-}
-
-// The last fields, and the decoder after them.
-#[derive(Clone, Copy)]
-pub struct ThirdRead {
-    // What was read.
-    pub third: Third,
-    // The decoder after it.
-    pub dec: BoolDecoder,
-}
-
 // A header read to its end, and the state after it.
 #[derive(Clone, Copy)]
 pub struct Headed {
@@ -172,194 +132,153 @@ pub struct Headed {
 }
 
 // From the first flag to the filter's sharpness (RFC 6386 sections 9.2 to 9.4).
-fn parse_first(area: &[u8], dec: BoolDecoder, key: bool, seg: Segmentation, mode: Mode) -> FirstRead
-    requires { Good area.now dec 111 }
-    ensures { Ran (make (first_of seg) (first mode key)) area.now dec result.first result.dec 111 }
+fn parse_first(dec: &mut BoolDecoder, key: bool, seg: Segmentation, mode: Mode) -> First
+    requires { Room dec.old 111 }
+    ensures { Ran (make (first_of seg) (first mode key)) dec.old result dec.new 111 }
 {
-    let color_space = bool_decoder::reads::flag_if(area, dec, key);
-    let clamping_type = bool_decoder::reads::flag_if(area, color_space.dec, key);
-    let update = vp8_fields::segmentation::update_segmentation(area, clamping_type.dec, seg, mode);
-    let filter_type = update.dec.read_flag(area);
-    let level = bool_decoder::reads::read_byte(area, filter_type.dec, 6);
-    let sharpness = bool_decoder::reads::read_byte(area, level.dec, 3);
-    let segmentation = update.segmentation;
-    let first = First {
-        color_space: color_space.bit,
-        clamping_type: clamping_type.bit,
+    let color_space = dec.flag_if(key);
+    let clamping_type = dec.flag_if(key);
+    let segmentation = update_segmentation(dec, seg, mode).value;
+    let filter_type = dec.read_flag();
+    let loop_filter_level = dec.read_byte(6);
+    let sharpness_level = dec.read_byte(3);
+    First {
+        color_space,
+        clamping_type,
         segmentation,
-        filter_type: filter_type.bit,
-        loop_filter_level: level.value,
-        sharpness_level: sharpness.value,
-    };
-    let after = sharpness.dec;
-    FirstRead { first, dec: after }
+        filter_type,
+        loop_filter_level,
+        sharpness_level,
+    }
 }
 
 // A key frame refreshes all three buffers.
-fn refresh_key(area: &[u8], dec: BoolDecoder) -> RefreshRead
-    requires { Good area.now dec 1 }
-    ensures { Ran (make refresh_of (refresh true)) area.now dec result.refresh result.dec 1 }
+fn refresh_key(dec: &mut BoolDecoder) -> RefreshFlags
+    requires { Room dec.old 1 }
+    ensures { Ran (make refresh_of (refresh true)) dec.old result dec.new 1 }
 {
-    let entropy = dec.read_flag(area);
-    let refresh = RefreshFlags {
+    RefreshFlags {
         refresh_golden_frame: true,
         refresh_alternate_frame: true,
         copy_buffer_to_golden: 0,
         copy_buffer_to_alternate: 0,
         sign_bias_golden: false,
         sign_bias_alternate: false,
-        refresh_entropy_probs: entropy.bit,
+        refresh_entropy_probs: dec.read_flag(),
         refresh_last: true,
-    };
-    let after = entropy.dec;
-    RefreshRead {
-        refresh,
-        dec: after,
     }
 }
 
 // An inter frame codes which buffers it refreshes (RFC 6386 sections 9.7 and 9.8).
-fn refresh_inter(area: &[u8], dec: BoolDecoder) -> RefreshRead
-    requires { Good area.now dec 10 }
-    ensures { Ran (make refresh_of (refresh false)) area.now dec result.refresh result.dec 10 }
+fn refresh_inter(dec: &mut BoolDecoder) -> RefreshFlags
+    requires { Room dec.old 10 }
+    ensures { Ran (make refresh_of (refresh false)) dec.old result dec.new 10 }
 {
-    let golden = dec.read_flag(area);
-    let alternate = golden.dec.read_flag(area);
-    let to_golden = bool_decoder::reads::byte_if(area, alternate.dec, !golden.bit, 2);
-    let to_alternate = bool_decoder::reads::byte_if(area, to_golden.dec, !alternate.bit, 2);
-    let bias_golden = to_alternate.dec.read_flag(area);
-    let bias_alternate = bias_golden.dec.read_flag(area);
-    let entropy = bias_alternate.dec.read_flag(area);
-    let last = entropy.dec.read_flag(area);
-    let refresh = RefreshFlags {
-        refresh_golden_frame: golden.bit,
-        refresh_alternate_frame: alternate.bit,
-        copy_buffer_to_golden: to_golden.value,
-        copy_buffer_to_alternate: to_alternate.value,
-        sign_bias_golden: bias_golden.bit,
-        sign_bias_alternate: bias_alternate.bit,
-        refresh_entropy_probs: entropy.bit,
-        refresh_last: last.bit,
-    };
-    let after = last.dec;
-    RefreshRead {
-        refresh,
-        dec: after,
+    let refresh_golden_frame = dec.read_flag();
+    let refresh_alternate_frame = dec.read_flag();
+    let copy_buffer_to_golden = dec.byte_if(!refresh_golden_frame, 2);
+    let copy_buffer_to_alternate = dec.byte_if(!refresh_alternate_frame, 2);
+    let sign_bias_golden = dec.read_flag();
+    let sign_bias_alternate = dec.read_flag();
+    let refresh_entropy_probs = dec.read_flag();
+    let refresh_last = dec.read_flag();
+    RefreshFlags {
+        refresh_golden_frame,
+        refresh_alternate_frame,
+        copy_buffer_to_golden,
+        copy_buffer_to_alternate,
+        sign_bias_golden,
+        sign_bias_alternate,
+        refresh_entropy_probs,
+        refresh_last,
     }
 }
 
 // The refresh flags of either kind of frame.
-fn parse_refresh(area: &[u8], dec: BoolDecoder, key: bool) -> RefreshRead
-    requires { Good area.now dec 10 }
-    ensures { Ran (make refresh_of (refresh key)) area.now dec result.refresh result.dec 10 }
+fn parse_refresh(dec: &mut BoolDecoder, key: bool) -> RefreshFlags
+    requires { Room dec.old 10 }
+    ensures { Ran (make refresh_of (refresh key)) dec.old result dec.new 10 }
 {
     if key {
-        refresh_key(area, dec)
+        refresh_key(dec)
     } else {
-        refresh_inter(area, dec)
+        refresh_inter(dec)
     }
 }
 
 // From the filter's deltas to the refresh flags (RFC 6386 sections 9.4 to 9.8).
-fn parse_second(area: &[u8], dec: BoolDecoder, key: bool, adj: MbLfAdjustments) -> SecondRead
-    requires { Good area.now dec 115 }
-    ensures { Ran (make (second_of adj) (second key)) area.now dec result.second result.dec 115 }
+fn parse_second(dec: &mut BoolDecoder, key: bool, adj: MbLfAdjustments) -> Second
+    requires { Room dec.old 115 }
+    ensures { Ran (make (second_of adj) (second key)) dec.old result dec.new 115 }
 {
-    let deltas = vp8_fields::deltas::parse_mb_lf_adjustments(area, dec, adj);
-    let log2 = bool_decoder::reads::read_byte(area, deltas.dec, 2);
-    let quant = vp8_fields::quantizer::parse_quant_indices(area, log2.dec);
-    let flags = parse_refresh(area, quant.dec, key);
-    let mb_lf_adjust = deltas.mb_lf_adjust;
-    let quant_indices = quant.quant_indices;
-    let refresh = flags.refresh;
-    let second = Second {
+    let mb_lf_adjust = parse_mb_lf_adjustments(dec, adj).value;
+    let log2_nbr_of_dct_partitions = dec.read_byte(2);
+    let quant_indices = parse_quant_indices(dec).value;
+    let refresh = parse_refresh(dec, key);
+    Second {
         mb_lf_adjust,
-        log2_nbr_of_dct_partitions: log2.value,
+        log2_nbr_of_dct_partitions,
         quant_indices,
         refresh,
-    };
-    let after = flags.dec;
-    SecondRead { second, dec: after }
+    }
 }
 
 // What an inter frame codes last (RFC 6386 sections 9.10, 16.2 and 17.2).
-fn parse_inter(area: &[u8], dec: BoolDecoder, modes: ModeProbs, mv: MvProbs) -> InterRead
-    requires { Good area.now dec 386 }
-    ensures { Ran (make (inter_of modes mv) inter) area.now dec result.inter result.dec 386 }
+fn parse_inter(dec: &mut BoolDecoder, modes: ModeProbs, mv: MvProbs) -> InterFields
+    requires { Room dec.old 386 }
+    ensures { Ran (make (inter_of modes mv) inter) dec.old result dec.new 386 }
 {
-    let intra = bool_decoder::reads::read_byte(area, dec, 8);
-    let last = bool_decoder::reads::read_byte(area, intra.dec, 8);
-    let golden = bool_decoder::reads::read_byte(area, last.dec, 8);
-    let old_luma = modes.intra_16x16_prob;
-    let luma = vp8_fields::modes::parse_intra_16x16_prob_update(area, golden.dec, old_luma);
-    let old_chroma = modes.intra_chroma_prob;
-    let chroma = vp8_fields::modes::parse_intra_chroma_prob_update(area, luma.dec, old_chroma);
-    let motion = vp8_fields::motion::parse_mv_prob_update(area, chroma.dec, mv);
-    let intra_16x16_prob = luma.values;
-    let intra_chroma_prob = chroma.values;
-    let mode_probs = ModeProbs {
-        intra_16x16_prob,
-        intra_chroma_prob,
-    };
-    let mv_prob = motion.mv_prob;
-    let inter = InterFields {
-        prob_intra: intra.value,
-        prob_last: last.value,
-        prob_golden: golden.value,
-        mode_probs,
+    let prob_intra = dec.read_byte(8);
+    let prob_last = dec.read_byte(8);
+    let prob_golden = dec.read_byte(8);
+    let intra_16x16_prob = parse_intra_16x16_prob_update(dec, modes.intra_16x16_prob).value;
+    let intra_chroma_prob = parse_intra_chroma_prob_update(dec, modes.intra_chroma_prob).value;
+    let mv_prob = parse_mv_prob_update(dec, mv).value;
+    InterFields {
+        prob_intra,
+        prob_last,
+        prob_golden,
+        mode_probs: ModeProbs {
+            intra_16x16_prob,
+            intra_chroma_prob,
+        },
         mv_prob,
-    };
-    let after = motion.dec;
-    InterRead { inter, dec: after }
+    }
 }
 
 // The same where the frame is one; the records stay where it is not.
-fn parse_inter_if(
-    area: &[u8],
-    dec: BoolDecoder,
-    on: bool,
-    modes: ModeProbs,
-    mv: MvProbs,
-) -> InterRead
-    requires { Good area.now dec 386 }
-    ensures { Ran (make (inter_of modes mv) (when on inter no_inter)) area.now dec result.inter result.dec 386 }
+fn parse_inter_if(dec: &mut BoolDecoder, on: bool, modes: ModeProbs, mv: MvProbs) -> InterFields
+    requires { Room dec.old 386 }
+    ensures { Ran (make (inter_of modes mv) (when on inter no_inter)) dec.old result dec.new 386 }
 {
     if on {
-        parse_inter(area, dec, modes, mv)
+        parse_inter(dec, modes, mv)
     } else {
-        let inter = InterFields {
+        InterFields {
             prob_intra: 0,
             prob_last: 0,
             prob_golden: 0,
             mode_probs: modes,
             mv_prob: mv,
-        };
-        InterRead { inter, dec }
+        }
     }
 }
 
 // From the coefficient probabilities on (RFC 6386 sections 13.4 and 9.11).
-fn parse_third(area: &[u8], dec: BoolDecoder, key: bool, parser: Parser) -> ThirdRead
-    requires { Good area.now dec 9899 }
-    ensures { Ran (make (third_of (probs_of parser)) (third key)) area.now dec result.third result.dec 9899 }
+fn parse_third(dec: &mut BoolDecoder, key: bool, parser: Parser) -> Third
+    requires { Room dec.old 9899 }
+    ensures { Ran (make (third_of (probs_of parser)) (third key)) dec.old result dec.new 9899 }
 {
-    let old_coeffs = parser.coeff_prob;
-    let old_modes = parser.mode_probs;
-    let old_mv = parser.mv_prob;
-    let tokens = vp8_fields::coefficients::parse_token_prob_update(area, dec, old_coeffs);
-    let skip = tokens.dec.read_flag(area);
-    let skip_prob = bool_decoder::reads::byte_if(area, skip.dec, skip.bit, 8);
-    let fields = parse_inter_if(area, skip_prob.dec, !key, old_modes, old_mv);
-    let coeff_prob = tokens.coeff_prob;
-    let inter = fields.inter;
-    let third = Third {
+    let coeff_prob = parse_token_prob_update(dec, parser.coeff_prob).value;
+    let mb_no_coeff_skip = dec.read_flag();
+    let prob_skip_false = dec.byte_if(mb_no_coeff_skip, 8);
+    let inter = parse_inter_if(dec, !key, parser.mode_probs, parser.mv_prob);
+    Third {
         coeff_prob,
-        mb_no_coeff_skip: skip.bit,
-        prob_skip_false: skip_prob.value,
+        mb_no_coeff_skip,
+        prob_skip_false,
         inter,
-    };
-    let after = fields.dec;
-    ThirdRead { third, dec: after }
+    }
 }
 
 // A key frame's header has mode probabilities of its own.
@@ -424,11 +343,9 @@ fn header_of(
     first: First,
     second: Second,
     third: Third,
-    area: &[u8],
-    dec: BoolDecoder,
+    dec: &BoolDecoder,
 ) -> Header
-    requires { Over area.now dec }
-    ensures { Heads result chunk first second third (snapshot (bits area.now) (state_of area.now dec)) }
+    ensures { Heads result chunk first second third (snapshot (bits dec.now.area.now) (state_of dec.now)) }
 {
     let width = pixels(chunk.width_code);
     let height = pixels(chunk.height_code);
@@ -436,17 +353,13 @@ fn header_of(
     let vert_scale_code = scale(chunk.height_code);
     let inter = third.inter;
     let refresh = second.refresh;
-    let quant_indices = second.quant_indices;
-    let coeff_prob = third.coeff_prob;
-    let mv_prob = inter.mv_prob;
-    let kept_modes = inter.mode_probs;
-    let mode_probs = mode_probs_init_defaults(chunk.key_frame, kept_modes);
-    let header_size = dec.pos(area);
-    let state = dec.snapshot(area);
+    let mode_probs = mode_probs_init_defaults(chunk.key_frame, inter.mode_probs);
+    let header_size = dec.pos();
+    let state = dec.snapshot();
     let bools = dec.bools();
     let mb_cols = blocks(width);
     let mb_rows = blocks(height);
-    let past = dec.past(area);
+    let past = dec.past();
     Header {
         key_frame: chunk.key_frame,
         version: chunk.version,
@@ -464,7 +377,7 @@ fn header_of(
         sharpness_level: first.sharpness_level,
         log2_nbr_of_dct_partitions: second.log2_nbr_of_dct_partitions,
         partition_size: [0; 8],
-        quant_indices,
+        quant_indices: second.quant_indices,
         refresh_entropy_probs: refresh.refresh_entropy_probs,
         refresh_last: refresh.refresh_last,
         refresh_golden_frame: refresh.refresh_golden_frame,
@@ -473,8 +386,8 @@ fn header_of(
         copy_buffer_to_alternate: refresh.copy_buffer_to_alternate,
         sign_bias_golden: refresh.sign_bias_golden,
         sign_bias_alternate: refresh.sign_bias_alternate,
-        coeff_prob,
-        mv_prob,
+        coeff_prob: third.coeff_prob,
+        mv_prob: inter.mv_prob,
         mb_no_coeff_skip: third.mb_no_coeff_skip,
         prob_skip_false: third.prob_skip_false,
         prob_intra: inter.prob_intra,
@@ -497,28 +410,17 @@ pub fn parse_frame_header(area: &[u8], parser: Parser, chunk: DataChunk, mode: M
     ensures { result ≡ headed_of mode (chunk_of chunk) area.now parser }
 {
     let key = chunk.key_frame;
-    let dec = BoolDecoder::new(area);
-    let old_segmentation = parser.segmentation;
-    let a = parse_first(area, dec, key, old_segmentation, mode);
-    let old_adjust = parser.mb_lf_adjust;
-    let b = parse_second(area, a.dec, key, old_adjust);
-    let c = parse_third(area, b.dec, key, parser);
-    let first = a.first;
-    let second = b.second;
-    let third = c.third;
-    let end = c.dec;
-    let header = header_of(chunk, first, second, third, area, end);
-    let segmentation = first.segmentation;
-    let mb_lf_adjust = second.mb_lf_adjust;
-    let after = kept(
+    let mut dec = BoolDecoder::new(area);
+    let first = parse_first(&mut dec, key, parser.segmentation, mode);
+    let second = parse_second(&mut dec, key, parser.mb_lf_adjust);
+    let third = parse_third(&mut dec, key, parser);
+    let header = header_of(chunk, first, second, third, &dec);
+    let parser = kept(
         parser,
-        segmentation,
-        mb_lf_adjust,
+        first.segmentation,
+        second.mb_lf_adjust,
         header.refresh_entropy_probs,
         third,
     );
-    Headed {
-        header,
-        parser: after,
-    }
+    Headed { header, parser }
 }

@@ -10,7 +10,8 @@ use Rattle.vp8_records.specs.Shape.{SizedMv}
 use Rattle.vp8_records.proofs.Parts as Parts
 use Rattle.rfc6386.specs.Runs.{over}
 use Rattle.rfc6386.specs.Call.{mv_over, modes_over}
-use Rattle.bool_decoder.proofs.Chain.{done, upto}
+use Rattle.bool_decoder.proofs.Chain.{upto}
+use Rattle.bool_decoder.proofs.Steps.{done}
 use Rattle.bool_decoder.proofs.Made.{make_on, make_off, same, worth}
 use Rattle.vp8_header.specs.Stages.{inter_of}
 use Rattle.vp8_header.proofs.parse_inter_if.Goals as goal
@@ -29,6 +30,6 @@ returns-else-on c = worth (λ i. record {
   prob_last = 0;
   prob_golden = 0;
   mode_probs = c.args.modes;
-  mv_prob = stays c.args.mv (mv c.args.mv _ c.well_formed.1.1.1.1.0) i;
+  mv_prob = stays c.args.mv (mv c.args.mv _ c.well_formed.1.1.1.0) i;
 })
-    (upto (omega arith) (same (make_off _ _ _ c.if-on.false) (done c.requires.over)))
+    (upto (omega arith) (same (make_off _ _ _ c.if-on.false) done))
