@@ -45,16 +45,13 @@ impl From<CutShort> for Fault {
     }
 }
 
-// The area of a given size; how many bytes it has.
-fn take_area(input: &mut impl Read, area: &mut [u8], size: u32) -> Result<usize, Fault>
-    ensures { IfOk result (λ count. IsPrefixLen count area.new) }
-{
-    if 4096 < size {
-        return Err(Fault::TooLarge);
+impl From<lines::Fault> for Fault {
+    fn from(fault: lines::Fault) -> Fault {
+        match fault {
+            lines::Fault::TooLarge => Fault::TooLarge,
+            lines::Fault::CutShort => Fault::CutShort,
+        }
     }
-    let wanted = size as usize;
-    lines::take_exact(input, area, wanted)?;
-    Ok(wanted)
 }
 
 // The number of reads and the reads; how many bytes these have.
@@ -63,11 +60,7 @@ fn take_reads(input: &mut impl Read, reads: &mut [u8]) -> Result<usize, Fault>
     ensures kinds { IfOk result (λ count. known (take count reads.new) ≡ true) }
 {
     let count = lines::take_le2(input)?.ok_or(Fault::CutShort)?;
-    if 1024 < count {
-        return Err(Fault::TooLarge);
-    }
-    let wanted = usize::from(count) * 2;
-    lines::take_exact(input, reads, wanted)?;
+    let wanted = lines::take_sized(input, reads, u32::from(count) * 2, 2048)?;
     if !kinds_known(&reads[..wanted]) {
         return Err(Fault::BadKind);
     }
@@ -87,7 +80,7 @@ pub fn take(
     let Some(size) = lines::take_le4(input)? else {
         return Ok(None);
     };
-    let area = take_area(input, area, size)?;
+    let area = lines::take_sized(input, area, size, 4096)?;
     let reads = take_reads(input, reads)?;
     Ok(Some(Script { area, reads }))
 }

@@ -4,27 +4,14 @@
 #![tactic(auto)]
 
 use ivf::Walked;
-use lines::Number;
+use lines::{CutShort, Fault};
+use std::io;
 use std::io::Read;
 
 // The entries before a walk.
-fn fill_offsets(offsets: &mut [u64]) {
-    let mut next: u64 = 1000000;
-    let mut i = 0;
-    while i < offsets.len() {
-        offsets[i] = next;
-        next = std::num::wrapping_add_u64(next, 1);
-        i += 1;
-    }
-}
-
-fn fill_lengths(lengths: &mut [u32]) {
-    let mut next: u32 = 2000000;
-    let mut i = 0;
-    while i < lengths.len() {
-        lengths[i] = next;
-        next = std::num::wrapping_add_u32(next, 1);
-        i += 1;
+fn fill<T: From<u32> + Drop>(list: &mut [T], first: u32) {
+    for (entry, n) in list.iter_mut().zip(first..) {
+        *entry = T::from(n);
     }
 }
 
@@ -34,138 +21,70 @@ fn spaced(out: &mut [u8], at: usize, n: u64) -> usize {
     text::decimal(out, to, n)
 }
 
-fn put_offsets(out: &mut [u8], at: usize, offsets: &[u64]) -> usize {
-    let mut to = text::bytes(out, at, b" offsets");
-    let mut i = 0;
-    while i < offsets.len() {
-        to = spaced(out, to, offsets[i]);
-        i += 1;
+// The entries after a word.
+fn put<T: Copy + Into<u64>>(out: &mut [u8], at: usize, word: &[u8], list: &[T]) -> usize {
+    let mut to = text::bytes(out, at, word);
+    for &entry in list {
+        to = spaced(out, to, entry.into());
     }
     to
 }
 
-fn wide(n: u32) -> u64 {
-    n as u64
-}
-
-fn put_lengths(out: &mut [u8], at: usize, lengths: &[u32]) -> usize {
-    let mut to = text::bytes(out, at, b" lengths");
-    let mut i = 0;
-    while i < lengths.len() {
-        to = spaced(out, to, wide(lengths[i]));
-        i += 1;
-    }
-    to
-}
-
-// The line of an answer; false where not all could be written.
-fn tell(rt: &impl Print, walked: Walked, offsets: &[u64], lengths: &[u32]) -> bool {
-    let mut out = [0u8; 4096];
+// The line of an answer; its length.
+fn line(out: &mut [u8], walked: Walked, offsets: &[u64], lengths: &[u32]) -> usize {
     let ended = walked.ended;
-    let to = text::bytes(&mut out, 0, b"count");
-    let to = spaced(&mut out, to, walked.count as u64);
-    let to = text::bytes(&mut out, to, b" refused");
-    let to = spaced(&mut out, to, ended.number() as u64);
-    let to = put_offsets(&mut out, to, offsets);
-    let to = put_lengths(&mut out, to, lengths);
-    let to = text::byte(&mut out, to, b'\n');
-    lines::show(rt, &out, to)
+    let to = text::bytes(out, 0, b"count");
+    let to = spaced(out, to, walked.count as u64);
+    let to = text::bytes(out, to, b" refused");
+    let to = spaced(out, to, u64::from(ended.number()));
+    let to = put(out, to, b" offsets", offsets);
+    let to = put(out, to, b" lengths", lengths);
+    text::byte(out, to, b'\n')
 }
 
-// The walk into these lists, and its line.
-fn walk(rt: &impl Print, file: &[u8], offsets: &mut [u64], lengths: &mut [u32]) -> bool {
-    fill_offsets(offsets);
-    fill_lengths(lengths);
-    let walked = ivf::walk(file, offsets, lengths);
-    tell(rt, walked, offsets, lengths)
-}
-
-fn wrong(rt: &impl Print, word: &[u8]) -> bool {
-    lines::say(rt, word);
-    false
-}
-
-// Lists of these lengths, of the entries that there are.
-fn lists(
-    rt: &impl Print,
-    file: &[u8],
-    offsets: &mut [u64],
-    lengths: &mut [u32],
-    of_offsets: usize,
-    of_lengths: usize,
-) -> bool {
-    if offsets.len() < of_offsets {
-        return wrong(rt, b"too large");
-    }
-    if lengths.len() < of_lengths {
-        return wrong(rt, b"too large");
-    }
-    walk(
-        rt,
-        file,
-        &mut offsets[..of_offsets],
-        &mut lengths[..of_lengths],
-    )
-}
-
-fn next_byte(input: &mut impl Read) -> usize {
-    match lines::take_byte(input) {
-        Number::Is(n) => n as usize,
-        Number::End => 256,
-        Number::Short => 256,
-    }
-}
-
-// One record; false where there is no other.
-fn record(
-    rt: &impl Print,
+// The next recording's walk into lists of the lengths that it asks for; how long its line is, or none where the input ends.
+fn next(
     input: &mut impl Read,
     file: &mut [u8],
     offsets: &mut [u64],
     lengths: &mut [u32],
-) -> bool {
-    let of_offsets = next_byte(input);
-    if of_offsets == 256 {
-        return false;
-    }
-    let of_lengths = next_byte(input);
-    match lines::take_le4(input) {
-        Number::Is(size) => {
-            if 65536 < size {
-                return wrong(rt, b"too large");
-            }
-            let wanted = size as usize;
-            let got = lines::take(input, file, wanted);
-            if got < wanted {
-                return wrong(rt, b"cut short");
-            }
-            lists(rt, &file[..got], offsets, lengths, of_offsets, of_lengths)
-        }
-        Number::End => wrong(rt, b"cut short"),
-        Number::Short => wrong(rt, b"cut short"),
-    }
+    out: &mut [u8],
+) -> Result<Option<usize>, Fault> {
+    let Some(of_offsets) = lines::take_byte(input) else {
+        return Ok(None);
+    };
+    let of_lengths = lines::take_byte(input).ok_or(CutShort)?;
+    let size = lines::take_le4(input)?.ok_or(CutShort)?;
+    let count = lines::take_sized(input, file, size, 65536)?;
+    let offsets = offsets
+        .get_mut(..usize::from(of_offsets))
+        .ok_or(Fault::TooLarge)?;
+    let lengths = lengths
+        .get_mut(..usize::from(of_lengths))
+        .ok_or(Fault::TooLarge)?;
+    fill(offsets, 1000000);
+    fill(lengths, 2000000);
+    let walked = ivf::walk(&file[..count], offsets, lengths);
+    Ok(Some(line(out, walked, offsets, lengths)))
 }
 
-// Nothing says that the input ends, so the loop counts down from a number that no run uses up.
-fn records(
-    rt: &impl Print,
-    input: &mut impl Read,
-    file: &mut [u8],
-    offsets: &mut [u64],
-    lengths: &mut [u32],
-) {
-    let mut left = u64::MAX;
-    let mut more = true;
-    while left > 0 && more {
-        more = record(rt, input, file, offsets, lengths);
-        left -= 1;
-    }
-}
-
-fn main(rt: HostRuntime) {
-    let mut input = rt.reader();
+// Nothing says that the input ends, so the loop has a number of turns that no run uses up.
+fn records(rt: &impl Print, input: &mut impl Read) -> io::Result<()> {
     let mut file = [0u8; 65536];
     let mut offsets = [0u64; 64];
     let mut lengths = [0u32; 64];
-    records(&rt, &mut input, &mut file, &mut offsets, &mut lengths);
+    let mut out = [0u8; 4096];
+    for _ in 0..u64::MAX {
+        match next(input, &mut file, &mut offsets, &mut lengths, &mut out) {
+            Ok(Some(end)) => lines::show(rt, &out, end)?,
+            Ok(None) => return Ok(()),
+            Err(fault) => return rt.println(fault),
+        }
+    }
+    Ok(())
+}
+
+// A line that cannot be written ends the run, and the status stays 0.
+fn main(rt: HostRuntime) {
+    let _ = records(&rt, &mut rt.reader());
 }

@@ -26,14 +26,11 @@ fn tell_frames(
         (bytes_of file.now (places_of (take count offsets.now) (take count lengths.now)))) }
 {
     let mut state = parser;
-    let mut i = 0;
-    while i < count {
+    for i in 0..count {
         let bytes = vp8_recording::frame_at(file, offsets[i], lengths[i]);
         let answer = vp8_parser::parse_in(state, bytes, mode);
         vp8_show::print::tell_numbered(rt, i as u64, answer);
-        let next = answer.parser;
-        state = next;
-        i += 1;
+        state = answer.parser;
     }
     state
 }
@@ -41,29 +38,28 @@ fn tell_frames(
 fn tell_refusal(rt: &impl Print, ended: Ended) {
     let number = ended.number();
     if number != 0 {
-        let mut out = [0u8; 16];
-        let to = text::bytes(&mut out, 0, b"refused ");
-        let to = text::decimal(&mut out, to, number as u64);
-        let to = text::byte(&mut out, to, b'\n');
-        lines::show(rt, &out, to);
+        let _ = println!(rt; "refused {number}");
     }
 }
 
-// The whole program, in a mode. Lists of 5,458 entries have room for every frame of such a file: a record has 12 bytes at least.
-pub fn run(rt: &(impl Input + Print), mode: Mode) {
-    let mut input = rt.reader();
-    let mut file = [0u8; 65537];
-    let n = lines::take(&mut input, &mut file, 65537);
-    if 65536 < n {
-        lines::say(rt, b"too large");
-        return;
-    }
+// The frames of a recording, and why no more. Lists of 5,458 entries have room for every frame of so short a file: a record has 12 bytes
+// at least.
+fn tell_file(rt: &impl Print, file: &[u8], mode: Mode) {
     let mut offsets = [0u64; 5458];
     let mut lengths = [0u32; 5458];
-    let walked = ivf::walk(&file[..n], &mut offsets, &mut lengths);
+    let walked = ivf::walk(file, &mut offsets, &mut lengths);
     let count = walked.count;
-    let ended = walked.ended;
-    let fresh = Parser::new();
-    tell_frames(rt, fresh, &file[..n], &offsets, &lengths, count, mode);
-    tell_refusal(rt, ended);
+    tell_frames(rt, Parser::new(), file, &offsets, &lengths, count, mode);
+    tell_refusal(rt, walked.ended);
+}
+
+// The whole program, in a mode.
+pub fn run(rt: &(impl Input + Print), mode: Mode) {
+    let mut file = [0u8; 65537];
+    match lines::take_all(&mut rt.reader(), &mut file) {
+        Ok(n) => tell_file(rt, &file[..n], mode),
+        Err(fault) => {
+            let _ = rt.println(fault);
+        }
+    }
 }

@@ -2,16 +2,15 @@
 // No public function has a premise.
 #![tactic(auto)]
 
-ghost use Rattle.std.specs.Prelude.{◌≤◌, OnOk};
+ghost use Rattle.std.specs.Prelude.{◌≡◌, ◌<◌, ◌≤◌, ◌↔◌, OnOk, IfOk, IfErr, IsErrOf, length};
 ghost use Rattle.lines.specs.Read.{IsPrefixLen};
 
-use std::io;
 use std::io::Read;
-use text::Text;
+use std::{fmt, io};
 
-// The text to standard output.
-pub fn show<const N: usize>(rt: &impl Print, text: &Text<N>) -> io::Result<()> {
-    rt.write_all(text.as_bytes())
+// A text to standard output.
+pub fn show(rt: &impl Print, text: &[u8]) -> io::Result<()> {
+    rt.write_all(text)
 }
 
 // A line of its own.
@@ -57,6 +56,66 @@ pub fn take_exact(input: &mut impl Read, buf: &mut [u8], n: usize) -> Result<(),
         return Err(CutShort);
     }
     Ok(())
+}
+
+// What is wrong with a piece of the input.
+#[derive(Clone, Copy, PartialEq, Eq, Debug)]
+pub enum Fault {
+    // More bytes than its limit.
+    TooLarge,
+    // The input ends within it.
+    CutShort,
+}
+
+impl fmt::Display for Fault {
+    fn fmt<W: fmt::Write>(&self, f: &mut fmt::Formatter<W>) -> fmt::Result {
+        f.write_str(match self {
+            Fault::TooLarge => "too large",
+            Fault::CutShort => "cut short",
+        })
+    }
+}
+
+impl From<CutShort> for Fault {
+    ghost use Rattle.lines.specs.declared.Fault.{Fault};
+
+    ghost from_gives = { λ _ fault. fault ≡ Fault.CutShort };
+
+    fn from(_: CutShort) -> Fault {
+        Fault::CutShort
+    }
+}
+
+// The next bytes, of a number that was read and at most the limit, to the start of buf; how many they are.
+pub fn take_sized(
+    input: &mut impl Read,
+    buf: &mut [u8],
+    size: u32,
+    limit: u32,
+) -> Result<usize, Fault>
+    ensures too_large { IsErrOf result Fault.TooLarge ↔ (limit < size) }
+    ensures whole { IfOk result (λ count. count ≡ size) }
+    ensures counts { IfOk result (λ count. IsPrefixLen count buf.new) }
+{
+    if limit < size {
+        return Err(Fault::TooLarge);
+    }
+    let wanted = size as usize;
+    take_exact(input, buf, wanted)?;
+    Ok(wanted)
+}
+
+// The whole input, to the start of buf, which it may not fill; how many bytes it has.
+pub fn take_all(input: &mut impl Read, buf: &mut [u8]) -> Result<usize, Fault>
+    ensures within { IfOk result (λ count. count < length buf.new) }
+    ensures counts { IfOk result (λ count. IsPrefixLen count buf.new) }
+    ensures err { IfErr result (λ fault. fault ≡ Fault.TooLarge) }
+{
+    let count = read_full(input, buf);
+    if count == buf.len() {
+        return Err(Fault::TooLarge);
+    }
+    Ok(count)
 }
 
 // The next byte; none where the input ends.

@@ -28,6 +28,13 @@ impl<const N: usize> Model for Text<N> {
     ghost invariant = { λ t. t.count ≤ N };
 }
 
+// The first n bytes of a buffer, where they stand; all of it where n is more.
+pub fn part(out: &[u8], n: usize) -> &[u8]
+    ensures { (result.now ≡ take n out.now) × (result.ref_ptr ≡ out.entry.ref_ptr) }
+{
+    if n < out.len() { &out[..n] } else { out }
+}
+
 fn glyph(d: u8) -> u8
     requires { d < 16 }
     ensures { result ≡ Digits·glyph d }
@@ -50,7 +57,7 @@ impl<const N: usize> Text<N> {
     pub fn as_bytes(&self) -> &[u8]
         ensures { result.now ≡ take self.now.count self.now.buffer }
     {
-        &self.buffer[..self.count]
+        part(&self.buffer, self.count)
     }
 
     // Begins again, over the old text.

@@ -6,11 +6,12 @@
 ghost use Rattle.std.specs.Prelude.{IfOk, IfSome};
 ghost use Rattle.vp8_show.specs.Input.{IsFrameIn};
 
+use lines::Fault;
 use std::io;
 use std::io::Read;
 use vp8_records::{Mode, Parser};
 use vp8_show::input;
-use vp8_show::input::{Fault, Record};
+use vp8_show::input::Record;
 
 // The parser, the mode, and whether the next frame is only looked at.
 #[derive(Clone, Copy)]

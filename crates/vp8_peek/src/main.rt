@@ -2,11 +2,9 @@
 #![tactic(auto)]
 
 fn main(rt: HostRuntime) {
-    let mut input = rt.reader();
     let mut first = [0u8; 10];
-    let n = lines::take(&mut input, &mut first, 10);
-    let peeked = vp8_parser::peek(&first[..n]);
+    let n = lines::take(&mut rt.reader(), &mut first, 10);
     let mut out = [0u8; 256];
-    let end = vp8_show::print::look(&mut out, 0, peeked);
-    lines::show(&rt, &out, end);
+    let end = vp8_show::print::look(&mut out, 0, vp8_parser::peek(&first[..n]));
+    let _ = lines::show(&rt, &out, end);
 }

@@ -1,19 +1,8 @@
-// The printing program in the standard's mode: as vp8_print, with the frame read as RFC 6386 has it.
+// The printing program in the standard's mode, with the frame read as RFC 6386 has it: `frame_show`.
 #![tactic(auto)]
 
-use vp8_records::{Mode, Parser};
+use vp8_records::Mode;
 
 fn main(rt: HostRuntime) {
-    let mut input = rt.reader();
-    let mut frame = [0u8; 65537];
-    let n = lines::take(&mut input, &mut frame, 65537);
-    if 65536 < n {
-        lines::say(&rt, b"too large");
-        return;
-    }
-    let fresh = Parser::new();
-    vp8_show::print::tell(
-        &rt,
-        vp8_parser::parse_in(fresh, &frame[..n], Mode::Standard),
-    );
+    frame_show::run(&rt, Mode::Standard);
 }

@@ -35,7 +35,7 @@ enum Fault {
     // Its fresh parser keeps another number, at this place.
     Fresh(usize),
     // A frame is wrong, or the list ends before its end.
-    Frame(input::Fault),
+    Frame(lines::Fault),
     // A stored answer is wrong.
     Answer,
     // A record that is none of the four.
@@ -63,8 +63,8 @@ impl fmt::Display for Fault {
     }
 }
 
-impl From<input::Fault> for Fault {
-    fn from(fault: input::Fault) -> Fault {
+impl From<lines::Fault> for Fault {
+    fn from(fault: lines::Fault) -> Fault {
         Fault::Frame(fault)
     }
 }

@@ -1,12 +1,11 @@
 // A record from standard input: a 4-byte little-endian length (at most 65,536) and that many bytes of a frame. With nothing after it, the
 // length FFFFFFFF asks for a fresh parser, FFFFFFFE and FFFFFFFD that frames be read in the standard's mode and in the Rust's from here
 // on, and FFFFFFFC that the next frame be only looked at.
-ghost use Rattle.std.specs.Prelude.{◌≡◌, IfOk, IfSome};
+ghost use Rattle.std.specs.Prelude.{◌≡◌, ◌<◌, ◌↔◌, IfOk, IfSome, IsErrOf};
 ghost use Rattle.lines.specs.Read.{IsPrefixLen};
 ghost use Rattle.vp8_show.specs.Input.{IsFrameIn};
 
-use lines::CutShort;
-use std::fmt;
+use lines::Fault;
 use std::io::Read;
 use vp8_records::Mode;
 
@@ -32,41 +31,13 @@ pub enum Record {
     Look,
 }
 
-// What is wrong with a record.
-#[derive(Clone, Copy, PartialEq, Eq, Debug)]
-pub enum Fault {
-    // A frame above the limit.
-    TooLarge,
-    // The input ends within it.
-    CutShort,
-}
-
-impl fmt::Display for Fault {
-    fn fmt<W: fmt::Write>(&self, f: &mut fmt::Formatter<W>) -> fmt::Result {
-        f.write_str(match self {
-            Fault::TooLarge => "too large",
-            Fault::CutShort => "cut short",
-        })
-    }
-}
-
-impl From<CutShort> for Fault {
-    fn from(_: CutShort) -> Fault {
-        Fault::CutShort
-    }
-}
-
 // The frame of a given size, to the start of the buffer; how many bytes it has.
 pub fn take_frame(input: &mut impl Read, frame: &mut [u8], size: u32) -> Result<usize, Fault>
+    ensures too_large { IsErrOf result Fault.TooLarge ↔ (65536 < size) }
     ensures whole { IfOk result (λ count. count ≡ size) }
     ensures counts { IfOk result (λ count. IsPrefixLen count frame.new) }
 {
-    if 65536 < size {
-        return Err(Fault::TooLarge);
-    }
-    let wanted = size as usize;
-    lines::take_exact(input, frame, wanted)?;
-    Ok(wanted)
+    lines::take_sized(input, frame, size, 65536)
 }
 
 // The next record, its frame to the start of the buffer; none where the input ends.

@@ -97,7 +97,7 @@ pub fn answer<const N: usize>(out: &mut Text<N>, parsed: Parsed)
 pub fn tell(rt: &impl Print, parsed: Parsed) {
     let mut out = Text::<1024>::new();
     answer(&mut out, parsed);
-    let _ = lines::show(rt, &out);
+    let _ = lines::show(rt, out.as_bytes());
 }
 
 // The lines of an answer, of which there are under 1,024 bytes, each with an index and a space in front; under 2,048 bytes.
@@ -113,7 +113,7 @@ pub fn numbered<const N: usize>(out: &mut Text<N>, index: u64, parsed: Parsed)
 pub fn tell_numbered(rt: &impl Print, index: u64, parsed: Parsed) {
     let mut out = Text::<2048>::new();
     numbered(&mut out, index, parsed);
-    let _ = lines::show(rt, &out);
+    let _ = lines::show(rt, out.as_bytes());
 }
 
 // The line of a look; under 256 bytes.
