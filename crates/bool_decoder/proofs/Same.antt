@@ -159,7 +159,7 @@ named_is AreaTooLong = refl
 named_is TooWide = refl
 named_is TooManyBools = refl
 
-same_refusal : {x y : ReadRefusal} → number_of x ≡ number_of y → x ≡ y
+pub same_refusal : {x y : ReadRefusal} → number_of x ≡ number_of y → x ≡ y
 same_refusal {x} {y} e = sym (named_is x) ∙ ap named e ∙ named_is y
 
 -- nothing is both refused and read

@@ -144,8 +144,9 @@ pub fn signed_of(magnitude: u32, sign: bool) -> i32
     if sign { -value } else { value }
 }
 
-// Whether a read of this width is within the limits. A signed literal wants one bool beside its width.
-fn check_limits(size: usize, width: u32, extra: u32, bools: u32) -> Result<(), ReadRefusal>
+// Whether a read of this width is within the limits. A signed literal wants one bool beside its width. Public for the slow decoder, whose
+// limits they are too.
+pub fn check_limits(size: usize, width: u32, extra: u32, bools: u32) -> Result<(), ReadRefusal>
     ensures { refused_by result ≡ refusal_of size width (width + extra) bools }
 {
     let wanted = (width as u64) + (extra as u64);

@@ -1,6 +1,7 @@
--- Hand is what the proofs of the engine use, Answers what those of its bare reads do; Tells is the promise, and that both engines tell a
--- caller the same; Same says that no contract leaves a choice.
-mod Hand
+-- Bytes is what the proofs of the engine use, Steps what those of its decoders do, Answers what those of a bare read do; Tells is the
+-- promise, and that both engines tell a caller the same; Same says that no contract leaves a choice.
+mod Bytes
+pub mod Steps
 pub mod Answers
 pub mod Tells
 pub mod Same

@@ -1,22 +1,21 @@
 -- What a caller is told by a list of reads is the definition's, of any engine, by induction on the list; so both engines, each from its
--- fresh decoder, tell the same: the window by what its functions promise, read by read.
+-- fresh decoder, tell the same.
 use Prim.Native.Nat.{ℕ}
-use mathlib.Core.Path.{◌≡◌, refl, ap, sym, ◌∙◌}
+use mathlib.Core.Path.{◌≡◌, refl, ap, sym, ◌∙◌, subst}
 use mathlib.Core.List.{List, ◌∷◌}
-use Rattle.rfc6386.specs.Decoder.{Out, bits, start, past}
-use Rattle.bool_decoder.specs.Engine.{Engine}
-use Rattle.bool_decoder.specs.Engine as By
-use Rattle.bool_decoder.specs.Model.{window}
-use Rattle.bool_decoder.specs.Model as W
-use Rattle.bool_decoder.specs.Window.{Over}
+use denote.Ref.{Bor}
+use Rattle.std.specs.Prelude.{Result, Ok, Err}
+use Rattle.rfc6386.specs.Decoder.{State, Out, bits, start, past}
+use Rattle.rfc6386.specs.Reads.{Rd, make}
 use Rattle.bool_decoder.specs.declared.BoolDecoder.{BoolDecoder}
+use Rattle.bool_decoder.specs.declared.Read.{Read}
+use Rattle.bool_decoder.specs.declared.ReadRefusal.{ReadRefusal}
+use Rattle.bool_decoder.specs.Model as W
 use Rattle.bool_slow.specs.declared.SlowDecoder.{SlowDecoder}
-use Rattle.bool_slow.specs.declared.bare.Shown.{Shown}
-use Rattle.bool_slow.specs.declared.bare.Value.{Value}
-use Rattle.bool_slow.specs.declared.bare.Value.TheVariants.{Bit, Plain, Signed}
-use Rattle.bool_slow.specs.Asks.{Ask, Gives}
-use Rattle.bool_slow.specs.Slow.{slow, Fresh}
-use Rattle.bool_slow.specs.Told.{shown_of, Told, tells, Tells, Answers, Shows, WindowTells}
+use Rattle.bool_slow.specs.Asks.{Ask, Value, Bit, Plain, Signed, Gives}
+use Rattle.bool_slow.specs.Bare.{over, past_of, Fresh, Meets}
+use Rattle.bool_slow.specs.Slow as S
+use Rattle.bool_slow.specs.Told.{shown_of, Told, tells, given, carried, Answers, Tells}
 use Rattle.bool_slow.specs.Told as T
 use Rattle.bool_slow.proofs.Answers.{allowed, refused}
 
@@ -25,45 +24,37 @@ first : (area : List ℕ) (asks : List Ask) → Out Value → List Told
 first area asks o =
     record { value = o.got; past = past (bits area) o.then; shown = shown_of (bits area) o.then } ∷ tells area asks o.then
 
-pub told_is : {E : Engine} {area : List ℕ} {d : E.Dec} {asks : List Ask} {ts : List Told} → Tells E area d asks ts
-    → ts ≡ tells area asks (E.state_of area d)
-unfolding tells first
-told_is T.none = refl
-told_is {area = area} {asks = a ∷ asks} (T.next {v = v} g s t) =
-    (λ i. record { value = v; past = g.past i; shown = s i } ∷ told_is t i) ∙ sym (ap (first area asks) g.is)
+module _ {D : Type 0} (area : D → Bor (List ℕ)) (state : D → State) where
+  -- an answer is the definition's
+  pub meets_gives : {A : Type 0} (f : A → Value) (m : Rd A) (d : D) (w k : ℕ) (r : Result (Read A) ReadRefusal) {d' : D}
+      → Meets area state m d w k r d'
+      → Gives (over area state (area d)) (area d).now (record { width = w; wanted = k; tree = make f m }) d (given f r)
+      (carried r (past_of area state d')) d'
+  meets_gives f m d w k (Ok r) g = allowed f m g
+  meets_gives f m d w k (Err e) g = rw g.1 (refused (make f m) refl g.0)
 
--- an engine's answers from its fresh decoder
-pub meets : {E : Engine} {area : List ℕ} {d : E.Dec} {asks : List Ask} {ts : List Told} → By.Fresh E area d → Tells E area d asks ts
-    → ts ≡ tells area asks (start area)
-meets {area = area} {asks = asks} f t = told_is t ∙ ap (tells area asks) f.state
+  pub gives : {d d' : D} {a : Ask} {v : Value} {q : ℕ} → Answers area state d d' a v q
+      → Gives (over area state (area d)) (area d).now a d v q d'
+  gives {d} (T.bit p r m) = meets_gives Bit _ d 1 1 r m
+  gives {d} (T.plain w r m) = meets_gives Plain _ d w w r m
+  gives {d} (T.sign w r m) = meets_gives Signed _ d w _ r m
 
-gives : {area : List ℕ} {d : BoolDecoder} {a : Ask} {v : Value} {q : ℕ} {d' : BoolDecoder} → Over area d → Answers area d a v q d'
-    → Gives window area a d v q d'
-gives o (T.bit p m) = allowed Bit _ m
-gives o (T.no_bit p m) = refused _ o m
-gives o (T.plain w m) = allowed Plain _ m
-gives o (T.no_plain w m) = refused _ o m
-gives o (T.sign w m) = allowed Signed _ m
-gives o (T.no_sign w m) = refused _ o m
+  pub told_is : {at : Bor (List ℕ)} {d : D} {asks : List Ask} {ts : List Told} → area d ≡ at → Tells area state d asks ts
+      → ts ≡ tells at.now asks (state d)
+  unfolding tells first
+  told_is same T.none = refl
+  told_is {at} {d} {asks = a ∷ asks} same (T.next {v = v} {q = q} {d' = d'} p s t) =
+      let g = subst (λ (b : Bor (List ℕ)). Gives (over area state b) b.now a d v q d') same (gives p) in
+      let l : bits (area d').now ≡ bits at.now = ap (λ (b : Bor (List ℕ)). bits b.now) g.over in
+      (λ i. record { value = v; past = g.past i; shown = (s ∙ ap (λ n. shown_of n (state d')) l) i } ∷ told_is g.over t i)
+      ∙ sym (ap (first at.now asks) g.is)
 
-shows : {area : List ℕ} {d : BoolDecoder} {s : Shown} → Shows area d s → s ≡ shown_of (bits area) (window.state_of area d)
-shows p = λ i. record {
-  position = p.place i;
-  past = p.past_end i;
-  range = p.seen.range i;
-  value = p.seen.value i;
-  count = p.seen.count i;
-  bools = p.bools i;
-}
+  -- an engine's answers from its fresh decoder
+  pub meets : {at : Bor (List ℕ)} {d : D} {asks : List Ask} {ts : List Told} → Fresh area state at d → Tells area state d asks ts
+      → ts ≡ tells at.now asks (start at.now)
+  meets {at = at} {asks = asks} f t = told_is f.over t ∙ ap (tells at.now asks) f.state
 
-window_tells : {area : List ℕ} {d : BoolDecoder} {asks : List Ask} {ts : List Told} → Over area d → WindowTells area d asks ts
-    → Tells window area d asks ts
-window_tells o T.none = T.none
-window_tells o (T.next a s t) =
-    let g = gives o a in
-    T.next g (shows s) (window_tells g.over t)
-
--- **the two engines agree**: over every area and every list of reads, whatever the two fresh decoders answer and show is the same
-pub agree : {area : List ℕ} {d : BoolDecoder} {e : SlowDecoder} {asks : List Ask} {xs ys : List Told} → W.Fresh area d → Fresh area e
-    → WindowTells area d asks xs → Tells slow area e asks ys → xs ≡ ys
-agree f g w s = meets f (window_tells f.over w) ∙ sym (meets g s)
+-- **the two engines agree**: over the same bytes and for every list of reads, whatever the two fresh decoders answer and show is the same
+pub agree : {at bt : Bor (List ℕ)} {d : BoolDecoder} {e : SlowDecoder} {asks : List Ask} {xs ys : List Told} → at.now ≡ bt.now
+    → W.Fresh at d → S.Fresh bt e → T.WindowTells d asks xs → T.SlowTells e asks ys → xs ≡ ys
+agree {asks = asks} b f g w s = meets _ _ f w ∙ ap (λ area. tells area asks (start area)) b ∙ sym (meets _ _ g s)

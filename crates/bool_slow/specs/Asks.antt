@@ -1,10 +1,15 @@
 -- A read of the bare decoder, whichever engine makes it: what it asks for, and what it answers.
-use Rattle.std.specs.Prelude.{ℕ, zero, suc, ◌+◌, ◌≡◌, List, length}
+use Rattle.std.specs.Prelude.{ℕ, zero, suc, ◌+◌, ◌≡◌, Bool, List, ℤ, length}
 use Rattle.rfc6386.specs.Decoder.{State, Out, bits, refusal_of}
 use Rattle.rfc6386.specs.Reads.{Rd, run, bool, lit, sint, make}
 use Rattle.bool_decoder.specs.Engine.{Engine, out, past_of}
-use Rattle.bool_slow.specs.declared.bare.Value.{Value}
-use Rattle.bool_slow.specs.declared.bare.Value.TheVariants.{Bit, Plain, Signed, Refused}
+
+-- what a read gives: a bool, a literal, a signed literal; or nothing, and the number of its refusal
+pub data Value : Type 0 where
+  Bit : Bool → Value
+  Plain : ℕ → Value
+  Signed : ℤ → Value
+  Refused : ℕ → Value
 
 -- a width, which is limited, the bools that it wants, and its tree
 pub record Ask : Type 0 where

@@ -1,34 +1,45 @@
--- The slow decoder as an engine: the contracts of its readers are those of the window's, of its decoders.
-use Rattle.std.specs.Prelude.{ℕ, List, ℤ}
+-- What the slow decoder's contracts say: those of the window's decoder, of the slow ones.
+use Rattle.std.specs.Prelude.{ℕ, ◌+◌, ◌≤◌, List, ℤ}
+use Rattle.std.specs.Borrow.{Bor}
+use Rattle.rfc6386.specs.Decoder.{bits, State, position}
 use Rattle.rfc6386.specs.Reads.{Rd}
 use Rattle.bool_decoder.specs.Engine as By
-use Rattle.bool_slow.specs.Hand.{state_of, Over}
-use Rattle.bool_slow.specs.Asks as Asks
+use Rattle.bool_slow.specs.Bare as Bare
+use Rattle.bool_slow.specs.Hand as H
 use Rattle.bool_slow.specs.declared.SlowDecoder.{SlowDecoder}
-use Rattle.bool_slow.specs.declared.bare.Value.{Value}
-use Rattle.bool_slow.specs.declared.bare.Answer.{Answer}
 
-abbrev pub slow : By.Engine
-slow = record { Dec = SlowDecoder; state_of = state_of; Over = Over }
+abbrev pub area_of : SlowDecoder → Bor (List ℕ)
+area_of d = d.area
 
-abbrev pub Good : List ℕ → SlowDecoder → ℕ → Type 0
-Good area d k = By.Good slow area d k
+-- the definition's state that d stands for
+abbrev pub state_of : SlowDecoder → State
+state_of d = H.state_of d.area.now d.hand
 
-abbrev pub Ran : {A : Type 0} → Rd A → List ℕ → SlowDecoder → A → SlowDecoder → ℕ → Type 0
-Ran m area d a d' k = By.Ran slow m area d a d' k
+-- the slow decoders over the area `at` as an engine: that one is fresh or left by reads is a fact of its type
+abbrev pub over : Bor (List ℕ) → By.Engine
+over = Bare.over area_of state_of
 
-abbrev pub Lit : List ℕ → ℕ → SlowDecoder → ℕ → SlowDecoder → Type 0
-Lit area w d v d' = By.Lit slow area w d v d'
+-- d has room for k bools more
+abbrev pub Room : SlowDecoder → ℕ → Type 0
+Room d k = d.hand.bools + k ≤ 16777216
 
-abbrev pub Sgn : List ℕ → ℕ → SlowDecoder → ℤ → SlowDecoder → Type 0
-Sgn area w d z d' = By.Sgn slow area w d z d'
+-- the reads m from d give a and leave d', over the same area, with at most k bools
+abbrev pub Ran : {A : Type 0} → Rd A → SlowDecoder → A → SlowDecoder → ℕ → Type 0
+Ran m d a d' k = By.Ran (over d.area) m d.area.now d a d' k
 
-abbrev pub Fresh : List ℕ → SlowDecoder → Type 0
-Fresh area d = By.Fresh slow area d
+-- the position, and how many bits d has gone past the area's end
+abbrev pub position_of : SlowDecoder → ℕ
+position_of d = position (bits d.area.now) (state_of d)
 
-abbrev pub Gives : List ℕ → Asks.Ask → SlowDecoder → Value → ℕ → SlowDecoder → Type 0
-Gives area a d v q d' = Asks.Gives slow area a d v q d'
+abbrev pub past_of : SlowDecoder → ℕ
+past_of d = By.past_of (over d.area) d.area.now d
 
--- a value, with the decoder's bits past the end, and the decoder
-abbrev pub answer_of : List ℕ → SlowDecoder → Value → Answer
-answer_of area d v = record { value = v; past = By.past_of slow area d; dec = d }
+abbrev pub Lit : ℕ → SlowDecoder → ℕ → SlowDecoder → Type 0
+Lit w d v d' = By.Lit (over d.area) d.area.now w d v d'
+
+abbrev pub Sgn : ℕ → SlowDecoder → ℤ → SlowDecoder → Type 0
+Sgn w d z d' = By.Sgn (over d.area) d.area.now w d z d'
+
+-- d is the decoder at the start of the area `at`
+abbrev pub Fresh : Bor (List ℕ) → SlowDecoder → Type 0
+Fresh at d = By.Fresh (over at) at.now d

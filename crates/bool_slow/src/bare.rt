@@ -1,40 +1,14 @@
-// The slow decoder as a caller has it: each read tests the limits first and refuses before any bool is read, which leaves the decoder as it
-// was; and what a decoder shows. The one premise: the decoder is fresh, or was left by reads over the same area.
-ghost use Rattle.std.specs.Prelude.{◌≡◌, ◌+◌, ◌≤◌, min};
-ghost use Rattle.rfc6386.specs.Decoder.{bits, refusal_of};
-ghost use Rattle.bool_slow.specs.Hand.{Over, state_of};
-ghost use Rattle.bool_slow.specs.Asks.{ask_bool, ask_plain, ask_signed};
-ghost use Rattle.bool_slow.specs.Slow.{Gives, answer_of};
-ghost use Rattle.bool_slow.specs.Told.{shown_of};
+// A decoder as its callers have it, whichever engine it is: each read tests the limits first and refuses before any bool is read, which
+// leaves the decoder as it was; and what a decoder shows. The window and the slow decoder are two.
+ghost use Rattle.rfc6386.specs.Decoder.{State};
+ghost use Rattle.std.specs.Borrow.{Bor};
+ghost use Rattle.std.specs.Prelude.{ℕ, List};
 
 use crate::SlowDecoder;
-
-// What a read gave.
-#[derive(Clone, Copy)]
-pub enum Value {
-    // A bool.
-    Bit(bool),
-    // A literal.
-    Plain(u32),
-    // A signed literal.
-    Signed(i32),
-    // Nothing: the number of its refusal.
-    Refused(u32),
-}
-
-// What a read gave, and the decoder after it.
-#[derive(Clone, Copy)]
-pub struct Answer {
-    // What the read gave.
-    pub value: Value,
-    // How many bits the decoder has then gone past the area's end.
-    pub past: u32,
-    // The decoder after it, where a refusal leaves it as it was.
-    pub dec: SlowDecoder,
-}
+use bool_decoder::{BoolDecoder, Read, ReadRefusal, check_limits};
 
 // What the outside may see of a decoder.
-#[derive(Clone, Copy)]
+#[derive(Clone, Copy, PartialEq, Eq, Debug)]
 pub struct Shown {
     // In bits; it stops at the area's end.
     pub position: u32,
@@ -48,108 +22,148 @@ pub struct Shown {
     pub bools: u32,
 }
 
-// A number of bits, or the area's end where that comes before it.
-fn stopped(doublings: u32, area: &[u8]) -> u32
-    ensures { result ≡ min doublings (bits area.now) }
-{
-    if ((doublings / 8) as usize) < area.len() {
-        doublings
-    } else {
-        (area.len() * 8) as u32
+// A decoder over an area, which stands for a state of the definition's.
+pub trait BareDecoder {
+    ghost use Rattle.std.specs.Prelude.{◌≡◌, ◌+◌};
+    ghost use Rattle.rfc6386.specs.Decoder.{bits};
+    ghost use Rattle.rfc6386.specs.Reads.{bool, lit, sint};
+    ghost use Rattle.bool_slow.specs.Bare.{Meets};
+    ghost use Rattle.bool_slow.specs.Told.{shown_of};
+
+    // Its area.
+    ghost area: { Self → Bor (List ℕ) };
+
+    // The state that it stands for.
+    ghost state: { Self → State };
+
+    // A bool at the chance prob / 256 of a 0.
+    fn ask_bool(&mut self, prob: u8) -> Result<Read<bool>, ReadRefusal>
+        ensures { Meets area state (bool prob) self.old 1 1 result self.new };
+
+    // A literal of num_bits bools.
+    fn ask_plain(&mut self, num_bits: u32) -> Result<Read<u32>, ReadRefusal>
+        ensures { Meets area state (lit num_bits) self.old num_bits num_bits result self.new };
+
+    // A magnitude of num_bits bools, then a sign.
+    fn ask_signed(&mut self, num_bits: u32) -> Result<Read<i32>, ReadRefusal>
+        ensures { Meets area state (sint num_bits) self.old num_bits (num_bits + 1) result self.new };
+
+    // What it shows.
+    fn shown(&self) -> Shown
+        ensures { result ≡ shown_of (bits (area self.now).now) (state self.now) };
+}
+
+impl BareDecoder for BoolDecoder<'_> {
+    ghost use Rattle.bool_decoder.specs.Model.{state_of};
+
+    ghost area = { λ d. d.area };
+
+    ghost state = { state_of };
+
+    fn ask_bool(&mut self, prob: u8) -> Result<Read<bool>, ReadRefusal> {
+        self.read_bool_with_prob(prob)
+    }
+
+    fn ask_plain(&mut self, num_bits: u32) -> Result<Read<u32>, ReadRefusal> {
+        self.read_uint(num_bits)
+    }
+
+    fn ask_signed(&mut self, num_bits: u32) -> Result<Read<i32>, ReadRefusal> {
+        self.read_sint(num_bits)
+    }
+
+    fn shown(&self) -> Shown {
+        let state = self.snapshot();
+        Shown {
+            position: self.pos(),
+            past: self.past(),
+            range: state.range,
+            value: state.value,
+            count: state.count,
+            bools: self.bools(),
+        }
     }
 }
 
-// The count follows the doublings, even where the position has stopped.
-pub fn shown_by(area: &[u8], dec: SlowDecoder) -> Shown
-    requires { Over area.now dec }
-    ensures { result ≡ shown_of (bits area.now) (state_of area.now dec) }
-{
+impl SlowDecoder<'_> {
+    ghost use Rattle.std.specs.Prelude.{◌≡◌, ◌+◌};
+    ghost use Rattle.bool_slow.specs.Hand.{doublings_of};
+    ghost use Rattle.bool_slow.specs.Slow.{position_of, past_of};
+
     // Eight doublings for each byte fetched after the first two, and those since.
-    let doublings = 8 * (dec.input - 2) + dec.bit_count;
-    let position = stopped(doublings, area);
-    Shown {
-        position,
-        past: doublings - position,
-        range: dec.range as u8,
-        value: (dec.value / 256) as u8,
-        count: ((8 - doublings % 8) % 8) as u8,
-        bools: dec.bools,
+    fn doublings(&self) -> u32
+        ensures { result ≡ doublings_of self.now.hand }
+    {
+        8 * (self.hand.input - 2) + self.hand.bit_count
+    }
+
+    // The doublings, or the area's end where that comes before them.
+    fn position(&self) -> u32
+        ensures { result ≡ position_of self.now }
+    {
+        let doublings = self.doublings();
+        if ((doublings / 8) as usize) < self.area.len() {
+            doublings
+        } else {
+            (self.area.len() * 8) as u32
+        }
+    }
+
+    // How far the doublings have gone past the area's end, where the position has stopped; 0 before it.
+    fn past(&self) -> u32
+        ensures { result ≡ past_of self.now }
+    {
+        let at = self.position();
+        self.doublings() - at
+    }
+
+    // A value that was just read, with the bits past the end beside it.
+    fn with_past<T>(&self, value: T) -> Read<T>
+        ensures value { result.value ≡ value }
+        ensures past { result.past ≡ past_of self.now }
+    {
+        Read {
+            value,
+            past: self.past(),
+        }
     }
 }
 
-// The number of the refusal, 0 for none: too large an area, too wide a literal, nothing to read from, too many bools. A signed literal
-// wants one bool beside its width.
-fn refusal(size: usize, width: u32, extra: u32, bools: u32) -> u32
-    requires { (extra ≤ 1) × (bools ≤ 16777216) }
-    ensures { result ≡ refusal_of size width (width + extra) bools }
-{
-    if SlowDecoder::AREA_LIMIT <= size {
-        return 6;
-    }
-    if SlowDecoder::WIDEST < width {
-        return 7;
-    }
-    let wanted = width + extra;
-    if size == 0 && 0 < wanted {
-        return 4;
-    }
-    if SlowDecoder::MOST_BOOLS < bools + wanted {
-        return 8;
-    }
-    0
-}
+impl BareDecoder for SlowDecoder<'_> {
+    ghost use Rattle.bool_slow.specs.Slow.{state_of};
 
-// What a decoder answers: the value, its bits past the end, itself.
-fn told(area: &[u8], dec: SlowDecoder, value: Value) -> Answer
-    requires { Over area.now dec }
-    ensures { result ≡ answer_of area.now dec value }
-{
-    let seen = shown_by(area, dec);
-    Answer {
-        value,
-        past: seen.past,
-        dec,
-    }
-}
+    ghost area = { λ d. d.area };
 
-// A bool at the chance prob / 256 of a 0.
-pub fn read_bool(area: &[u8], dec: SlowDecoder, prob: u8) -> Answer
-    requires { Over area.now dec }
-    ensures { Gives area.now (ask_bool prob) dec result.value result.past result.dec }
-{
-    let number = refusal(area.len(), 1, 0, dec.bools);
-    if number != 0 {
-        return told(area, dec, Value::Refused(number));
-    }
-    let read = dec.read_bool(area, prob);
-    let next = read.dec;
-    told(area, next, Value::Bit(read.bit))
-}
+    ghost state = { state_of };
 
-// A literal of num_bits bools.
-pub fn read_literal(area: &[u8], dec: SlowDecoder, num_bits: u32) -> Answer
-    requires { Over area.now dec }
-    ensures { Gives area.now (ask_plain num_bits) dec result.value result.past result.dec }
-{
-    let number = refusal(area.len(), num_bits, 0, dec.bools);
-    if number != 0 {
-        return told(area, dec, Value::Refused(number));
+    fn ask_bool(&mut self, prob: u8) -> Result<Read<bool>, ReadRefusal> {
+        check_limits(self.area.len(), 1, 0, self.hand.bools)?;
+        let bit = self.read_bool(prob);
+        Ok(self.with_past(bit))
     }
-    let read = dec.read_literal(area, num_bits);
-    let next = read.dec;
-    told(area, next, Value::Plain(read.value))
-}
 
-// A magnitude of num_bits bools, then a sign.
-pub fn read_signed(area: &[u8], dec: SlowDecoder, num_bits: u32) -> Answer
-    requires { Over area.now dec }
-    ensures { Gives area.now (ask_signed num_bits) dec result.value result.past result.dec }
-{
-    let number = refusal(area.len(), num_bits, 1, dec.bools);
-    if number != 0 {
-        return told(area, dec, Value::Refused(number));
+    fn ask_plain(&mut self, num_bits: u32) -> Result<Read<u32>, ReadRefusal> {
+        check_limits(self.area.len(), num_bits, 0, self.hand.bools)?;
+        let value = self.read_literal(num_bits);
+        Ok(self.with_past(value))
     }
-    let read = dec.read_signed(area, num_bits);
-    let next = read.dec;
-    told(area, next, Value::Signed(read.value))
+
+    fn ask_signed(&mut self, num_bits: u32) -> Result<Read<i32>, ReadRefusal> {
+        check_limits(self.area.len(), num_bits, 1, self.hand.bools)?;
+        let value = self.read_signed(num_bits);
+        Ok(self.with_past(value))
+    }
+
+    // The count follows the doublings, even where the position has stopped.
+    fn shown(&self) -> Shown {
+        let doublings = self.doublings();
+        Shown {
+            position: self.position(),
+            past: self.past(),
+            range: self.hand.range as u8,
+            value: (self.hand.value / 256) as u8,
+            count: ((8 - doublings % 8) % 8) as u8,
+            bools: self.hand.bools,
+        }
+    }
 }

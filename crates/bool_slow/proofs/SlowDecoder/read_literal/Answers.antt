@@ -5,6 +5,7 @@ use native.Mathlib.Omega.{arith}
 use mir.Val.{bool_byte}
 use Rattle.rfc6386.specs.Reads.{flag, bit}
 use Rattle.bool_decoder.proofs.Literal.{begin, turn, end}
+use Rattle.bool_slow.proofs.Steps.{moved}
 use Rattle.bool_slow.proofs.SlowDecoder.read_literal.Goals as goal
 
 -- a bool as a number
@@ -13,12 +14,13 @@ byte_bit true = refl
 byte_bit false = refl
 
 pub loop-init : goal.loop-init
-loop-init c = begin c.args.area.now c.args.num_bits c.args.self c.requires.1.over
+loop-init c = let d = c.args.self.now in
+    begin d.area.now c.args.num_bits d refl
 
 pub loop-preserved : goal.loop-preserved
 unfolding flag
-loop-preserved c = let read = c.read_bool-read in
-    turn c.loop.invariant (omega arith) read.ensures _ (byte_bit read.result.bit)
+loop-preserved c = let i = c.loop.invariant in
+    turn i (omega arith) (moved _ _ i.over c.read_bool.ensures) _ (byte_bit c.read_bool.result)
 
 pub returns : goal.returns
 returns c = end c.loop.invariant (omega arith)

@@ -18,15 +18,14 @@ use Rattle.bool_decoder.proofs.Stream.{rest_zero, rest_step, rest_lt, more}
 use Rattle.bool_decoder.proofs.Normal.{normal_high}
 use Rattle.bool_decoder.proofs.Over.{top}
 use Rattle.bool_decoder.proofs.Picks.{split_below, picks_one, picks_zero}
-use Rattle.bool_slow.specs.declared.SlowDecoder.{SlowDecoder}
-use Rattle.bool_slow.specs.Hand.{doublings_of, v_of, state_of, Held, Over}
-use Rattle.bool_slow.specs.Slow.{Good, Ran, Fresh}
+use Rattle.bool_slow.specs.declared.Hand.{Hand}
+use Rattle.bool_slow.specs.Hand.{doublings_of, v_of, state_of, Held, Over, Good, Ran, Fresh}
 
-value_is : (area : List ℕ) (d : SlowDecoder) (v : ℕ) → Held area d v → v_of area d ≡ v
+value_is : (area : List ℕ) (d : Hand) (v : ℕ) → Held area d v → v_of area d ≡ v
 unfolding v_of
 value_is area d v H = made_is 8 (2 ^ bits area) d.bit_count (rest area d.input) v d.value H
 
-held_is : (area : List ℕ) (d : SlowDecoder) (v : ℕ) → Held area d v → Held area d (v_of area d)
+held_is : (area : List ℕ) (d : Hand) (v : ℕ) → Held area d v → Held area d (v_of area d)
 held_is area d v H = rw (value_is area d v H) H
 
 -- the first two bytes
@@ -34,14 +33,14 @@ pub fresh : (area : List ℕ) (y z : ℕ) → ((i : ℕ) → get_or area i 0 < 2
     → Fresh area (record { input = 2; range = 255; value = y * 256 + z; bit_count = 0; bools = 0 })
 unfolding start
 fresh area y z bytes iy iz =
-    let d : SlowDecoder = record { input = 2; range = 255; value = y * 256 + z; bit_count = 0; bools = 0 } in
+    let d : Hand = record { input = 2; range = 255; value = y * 256 + z; bit_count = 0; bools = 0 } in
     let b = 2 ^ bits area in
     let one : (0 * 256 + get_or area 0 0) * b + rest area 1 ≡ number area * 256 = more area 0 0 (omega (arith, rest_zero area)) in
     let two : (get_or area 0 0 * 256 + get_or area 1 0) * b + rest area 2 ≡ number area * 256 ^ 2 =
     more area (get_or area 0 0) 1 (rw zero-add at one) in
     let H : Held area d (number area * 256) = rw (iy, iz) (record {
       exact = omega (arith, two);
-      zeros = (get_or area 0 0 * 256 + get_or area 1 0, sym (mul-one _));
+      zeros = omega arith;
       small = omega (arith, bytes 0, bytes 1);
     }) in
     record {
@@ -61,7 +60,7 @@ fresh area y z bytes iy iz =
     }
 
 -- between reads and within one: the two bytes hold V, and the range is at most a byte
-pub record Loose (area : List ℕ) (d : SlowDecoder) : Type 0 where
+pub record Loose (area : List ℕ) (d : Hand) : Type 0 where
   pub bytes : (i : ℕ) → get_or area i 0 < 256
   pub holds : Held area d (v_of area d)
   pub begun : 2 ≤ d.input
@@ -70,7 +69,7 @@ pub record Loose (area : List ℕ) (d : SlowDecoder) : Type 0 where
   pub high : d.range < 256
 
 -- here is d, which a bool was picked of, after some of its doublings; `fuel` more are enough
-pub record Going (area : List ℕ) (d here : SlowDecoder) : Type 0 where
+pub record Going (area : List ℕ) (d here : Hand) : Type 0 where
   pub fuel : ℕ
   pub loose : Loose area here
   pub enough : 128 ≤ here.range * 2 ^ fuel
@@ -79,7 +78,7 @@ pub record Going (area : List ℕ) (d here : SlowDecoder) : Type 0 where
   pub bools : here.bools ≡ d.bools
   pub state : normal fuel (bits area) (state_of area here) ≡ normal 7 (bits area) (state_of area d)
 
-module _ {area : List ℕ} {d here : SlowDecoder} (G : Going area d here) (short : here.range < 128) where
+module _ {area : List ℕ} {d here : Hand} (G : Going area d here) (short : here.range < 128) where
   abbrev b : ℕ
   b = 2 ^ bits area
 
@@ -95,7 +94,7 @@ module _ {area : List ℕ} {d here : SlowDecoder} (G : Going area d here) (short
       shift 8 b here.bit_count (rest area here.input) (v_of area here) here.value G.loose.holds
       (rest_lt area here.input G.loose.bytes) 1 (omega (arith, G.loose.part))
 
-  doubles : (r : SlowDecoder) → Held area r v' → r.range ≡ here.range * 2 → doublings_of r ≡ doublings_of here + 1 → r.bools ≡ here.bools
+  doubles : (r : Hand) → Held area r v' → r.range ≡ here.range * 2 → doublings_of r ≡ doublings_of here + 1 → r.bools ≡ here.bools
       → state_of area r ≡ double (bits area) (state_of area here)
   unfolding double
   doubles r H er ec en = λ i. record {
@@ -108,7 +107,7 @@ module _ {area : List ℕ} {d here : SlowDecoder} (G : Going area d here) (short
   -- one doubling less is left
   turned : (f : ℕ) → 128 ≤ here.range * 2 ^ f → doublings_of here + f ≤ doublings_of d + 7
       → normal f (bits area) (state_of area here) ≡ normal 7 (bits area) (state_of area d)
-      → (r : SlowDecoder) → Held area r v' → 2 ≤ r.input → r.bit_count < 8 → r.range ≡ here.range * 2
+      → (r : Hand) → Held area r v' → 2 ≤ r.input → r.bit_count < 8 → r.range ≡ here.range * 2
       → doublings_of r ≡ doublings_of here + 1 → r.bools ≡ here.bools → Going area d r
   unfolding normal
   turned zero en few st r H bg pt er ec eb = absurd (omega (arith, rw mul-one at en))
@@ -130,7 +129,7 @@ module _ {area : List ℕ} {d here : SlowDecoder} (G : Going area d here) (short
     state = rw (doubles r H er ec eb) (rw (lt-leb 128 here.range short, normal) at st);
   }
 
-  turn : (r : SlowDecoder) → Held area r v' → 2 ≤ r.input → r.bit_count < 8 → r.range ≡ here.range * 2
+  turn : (r : Hand) → Held area r v' → 2 ≤ r.input → r.bit_count < 8 → r.range ≡ here.range * 2
       → doublings_of r ≡ doublings_of here + 1 → r.bools ≡ here.bools → Going area d r
   turn = turned G.fuel G.enough G.few G.state
 
@@ -160,13 +159,13 @@ module _ {area : List ℕ} {d here : SlowDecoder} (G : Going area d here) (short
       turn _ (rw (mul-one y) at H) (omega (arith, G.loose.begun)) (lit< tt) refl (omega (arith, G.loose.begun)) refl
 
 -- b is picked of d, and e is left to be doubled
-pub record Picked (area : List ℕ) (d : SlowDecoder) (p : ℕ) (b : Bool) (e : SlowDecoder) : Type 0 where
+pub record Picked (area : List ℕ) (d : Hand) (p : ℕ) (b : Bool) (e : Hand) : Type 0 where
   pub is : read_bool (bits area) p (state_of area d) ≡ out b (normal 7 (bits area) (state_of area e))
   pub loose : Loose area e
   pub gone : doublings_of e ≡ doublings_of d
   pub bools : e.bools ≡ d.bools + 1
 
-module _ {area : List ℕ} {d : SlowDecoder} (G : Good area d 1) (p : ℕ) (byte : p < 256) where
+module _ {area : List ℕ} {d : Hand} (G : Good area d 1) (p : ℕ) (byte : p < 256) where
   abbrev s : ℕ
   s = split d.range p
 
@@ -180,12 +179,12 @@ module _ {area : List ℕ} {d : SlowDecoder} (G : Good area d 1) (p : ℕ) (byte
   unread = rest_lt area d.input G.over.bytes
 
   -- whatever a bool takes off, the decoder that it leaves has d's place
-  left : {b : Bool} {e : SlowDecoder} (r u : ℕ) → read_bool (bits area) p (state_of area d)
+  left : {b : Bool} {e : Hand} (r u : ℕ) → read_bool (bits area) p (state_of area d)
       ≡ out b (normal 7 (bits area) (record { v = u; r = r; c = doublings_of d; n = d.bools + 1 })) → 0 < r → r < 256
       → (w : ℕ) → e ≡ record { input = d.input; range = r; value = w; bit_count = d.bit_count; bools = d.bools + 1 }
       → Holds 8 (2 ^ bits area) d.bit_count x u w → Picked area d p b e
   left {b} {e} r u is some high w at H =
-      let f : SlowDecoder = record { input = d.input; range = r; value = w; bit_count = d.bit_count; bools = d.bools + 1 } in
+      let f : Hand = record { input = d.input; range = r; value = w; bit_count = d.bit_count; bools = d.bools + 1 } in
       rw at (record {
         is =
             is
@@ -205,7 +204,7 @@ module _ {area : List ℕ} {d : SlowDecoder} (G : Good area d 1) (p : ℕ) (byte
       })
 
   -- a one takes the split off, a zero makes it the range
-  pub picked_one : {b : Bool} {e : SlowDecoder} → leb (s * 256) d.value ≡ b → b ≡ true
+  pub picked_one : {b : Bool} {e : Hand} → leb (s * 256) d.value ≡ b → b ≡ true
       → e ≡ record {
         input = d.input;
         range = d.range - s;
@@ -222,7 +221,7 @@ module _ {area : List ℕ} {d : SlowDecoder} (G : Good area d 1) (p : ℕ) (byte
       (omega (arith, G.over.high)) (d.value - s * 256) at
       (less 8 (2 ^ bits area) d.bit_count x v d.value G.over.holds unread s (omega (arith, G.over.part)) h))
 
-  pub picked_zero : {b : Bool} {e : SlowDecoder} → leb (s * 256) d.value ≡ b → b ≡ false
+  pub picked_zero : {b : Bool} {e : Hand} → leb (s * 256) d.value ≡ b → b ≡ false
       → e ≡ record { input = d.input; range = s; value = d.value; bit_count = d.bit_count; bools = d.bools + 1 }
       → Picked area d p b e
   picked_zero t clear at =
@@ -233,7 +232,7 @@ module _ {area : List ℕ} {d : SlowDecoder} (G : Good area d 1) (p : ℕ) (byte
       (picks_zero (bits area) p 8 d.bit_count x d.value (state_of area d) G.over.holds unread refl narrow h) (omega arith)
       (omega (arith, G.over.high)) d.value at G.over.holds)
 
-module _ {area : List ℕ} {d : SlowDecoder} (G : Good area d 1) {p : ℕ} {b : Bool} {e : SlowDecoder} (P : Picked area d p b e) where
+module _ {area : List ℕ} {d : Hand} (G : Good area d 1) {p : ℕ} {b : Bool} {e : Hand} (P : Picked area d p b e) where
   -- seven doublings are enough for any range
   pub begin : Going area e e
   begin = record {
@@ -247,7 +246,7 @@ module _ {area : List ℕ} {d : SlowDecoder} (G : Good area d 1) {p : ℕ} {b : 
   }
 
   -- the range is back, and nothing more is doubled
-  pub ended : {here : SlowDecoder} → Going area e here → 128 ≤ here.range → Ran (bool p) area d b here 1
+  pub ended : {here : Hand} → Going area e here → 128 ≤ here.range → Ran (bool p) area d b here 1
   unfolding run bool
   ended {here} g h = record {
     is = P.is ∙ ap (out b) (sym g.state ∙ normal_high g.fuel (bits area) (state_of area here) h);
@@ -266,7 +265,7 @@ module _ {area : List ℕ} {d : SlowDecoder} (G : Good area d 1) {p : ℕ} {b : 
   }
 
 -- the byte before the point is V's whole part
-pub whole_part : {area : List ℕ} {d : SlowDecoder} → Over area d → d.value / 256 ≡ v_of area d / 2 ^ bits area
+pub whole_part : {area : List ℕ} {d : Hand} → Over area d → d.value / 256 ≡ v_of area d / 2 ^ bits area
 whole_part {area} {d} o =
     sym (whole_is 8 (2 ^ bits area) d.bit_count (rest area d.input) (v_of area d) d.value o.holds
     (rest_lt area d.input o.bytes) (omega (arith, o.part)))
