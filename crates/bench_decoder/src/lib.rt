@@ -22,12 +22,8 @@ fn flags(area: &[u8], table: &[u8; 1056]) -> u64
 {
     let mut dec = BoolDecoder::new(area);
     let mut sum: u64 = 0;
-    let mut i: usize = 0;
-    while i < 1056 {
-        let read = dec.read_bit(area, table[i]);
-        sum = mark(sum, read.bit, i);
-        dec = read.dec;
-        i += 1;
+    for (i, p) in table.iter().enumerate() {
+        sum = mark(sum, dec.read_bit(*p), i);
     }
     sum
 }

@@ -2,7 +2,6 @@
 use Prim.Native.Nat.{ℕ, ◌/◌, ◌%◌}
 use mathlib.Core.Path.{◌≡◌, ◌∙◌}
 use mathlib.Core.Bool.{Bool, false}
-use mathlib.Core.List.{List}
 use Rattle.vp8_records.specs.declared.Mode.{Mode}
 use Rattle.rfc6386.specs.Reads.{Rd, ret, ◌>>=◌, flag, when, lit, make}
 use Rattle.rfc6386.specs.Coded.{segments}
@@ -10,12 +9,10 @@ use Rattle.rfc6386.proofs.Trees.{assoc, onward}
 use Rattle.rfc6386.proofs.Split.{regroup}
 use Rattle.bool_decoder.specs.Model.{Ran, Lit}
 use Rattle.bool_decoder.specs.declared.BoolDecoder.{BoolDecoder}
-use Rattle.bool_decoder.specs.declared.reads.Byte.{Byte}
-use Rattle.bool_decoder.proofs.Chain.{then, done}
+use Rattle.bool_decoder.proofs.Steps.{then, done}
 use Rattle.bool_decoder.proofs.Same.{same_read}
 use Rattle.vp8_header.specs.Stages.{FirstCoded, first}
 use Rattle.vp8_header.specs.declared.First.{First}
-use Rattle.vp8_header.specs.declared.FirstRead.{FirstRead}
 use Rattle.vp8_regroup.specs.Filter.{filter, filter_of}
 use Rattle.vp8_regroup.specs.declared.Filter as F
 
@@ -44,17 +41,17 @@ first_by_lem md key =
     assoc (lit 6) _ _ ∙ onward (lit 6) (λ ll. assoc (lit 3) _ _)))))
 
 -- no contract leaves a choice
-pub one_filter : {area : List ℕ} {d : BoolDecoder} {r q : F.Filter}
-    → Ran filter area d (filter_of r) r.dec 9 → Ran filter area d (filter_of q) q.dec 9 → r ≡ q
-one_filter = same_read {S = F.Filter} (λ c e. record { level = c.level; sharpness = c.sharpness; dec = e })
+pub one_filter : {d e f : BoolDecoder} {r q : F.Filter} → Ran filter d (filter_of r) e 9 → Ran filter d (filter_of q) f 9
+    → (r ≡ q) × (e ≡ f)
+one_filter p q =
+    let s = same_read p q in
+    (λ i. record { level = (s.0 i).level; sharpness = (s.0 i).sharpness }, s.1)
 
-pub one_first : {m : Rd First} {area : List ℕ} {d : BoolDecoder} {r q : FirstRead}
-    → Ran m area d r.first r.dec 111 → Ran m area d q.first q.dec 111 → r ≡ q
-one_first = same_read {S = FirstRead} (λ a e. record { first = a; dec = e })
+pub one_first : {m : Rd First} {d e f : BoolDecoder} {r q : First} → Ran m d r e 111 → Ran m d q f 111 → (r ≡ q) × (e ≡ f)
+one_first = same_read
 
 -- whatever the contracts let two reads answer, of six bools and of three, and `read_filter`: level, sharpness and decoder are equal
-pub two_are_one : {area : List ℕ} {d : BoolDecoder} {l s : Byte} {r : F.Filter}
-    → Lit area 6 d l.value l.dec → Lit area 3 l.dec s.value s.dec → Ran filter area d (filter_of r) r.dec 9
-    → record { level = l.value; sharpness = s.value; dec = s.dec } ≡ r
+pub two_are_one : {d e f g : BoolDecoder} {level sharpness : ℕ} {r : F.Filter} → Lit 6 d level e → Lit 3 e sharpness f
+    → Ran filter d (filter_of r) g 9 → (record { level = level; sharpness = sharpness } ≡ r) × (f ≡ g)
 unfolding filter
-two_are_one p q = one_filter (then _ p.ran (then _ q.ran (done q.ran.over)))
+two_are_one p q = one_filter (then _ p.ran (then _ q.ran done))

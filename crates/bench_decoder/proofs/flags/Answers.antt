@@ -12,7 +12,7 @@ unfolding coeff_update
 loop-i-preserved c =
     let lengths : length c.args.table.now ≡ 1056 = ap length c.requires in
     let size = lengths in
-    let t = turn c.loop-i.invariant (omega arith) c.read_bit-read.ensures in
+    let t = turn c.loop-i.invariant (omega arith) c.read_bit.ensures in
     rw c.mark-sum.ensures t
 
 pub returns : goal.returns
