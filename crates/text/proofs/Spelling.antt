@@ -50,9 +50,6 @@ last_digit n h =
     let t = tenth n h in
     many n n h ∙ ap (λ (ds : List ℕ). ds ++ ((48 + n % 10) ∷ [])) (same n (suc (n / 10)) (n / 10) (omega arith) (omega arith))
 
-pub falls : (n t : ℕ) → n ≡ t → 10 ≤ n → n / 10 < t
-falls n t e h = omega (arith, tenth n h)
-
 -- the same of a text: a digit put, and the digits of the tenth with the last digit after them
 pub puts_one : (t u : Text) (n b : ℕ) → n < 10 → b ≡ 48 + n → u ≡ put t b → u ≡ puts t (decimal_of n)
 puts_one t u n b h e d = rw (one_digit n h, ← e) (d ∙ sym (puts_cons t b [] ∙ puts_nil (put t b)))

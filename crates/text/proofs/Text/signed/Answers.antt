@@ -20,7 +20,8 @@ unfolding signed_of
 negative (pos k) n t u v h m e d = absurd (omega (arith, ltb-true k 0 h))
 negative (negsuc k) n t u v h m e d = rw (m, e) at d ∙ sym (puts_cons t 45 _)
 
-other : (z : ℤ) (n : ℕ) (t u v : Text) → lt_z z (pos 0) ≡ false → n ≡ nat_abs z → u ≡ t → v ≡ puts u (decimal_of n) → v ≡ puts t (signed_of z)
+other : (z : ℤ) (n : ℕ) (t u v : Text) → lt_z z (pos 0) ≡ false → n ≡ nat_abs z → u ≡ t → v ≡ puts u (decimal_of n)
+    → v ≡ puts t (signed_of z)
 unfolding signed_of
 other (pos k) n t u v h m e d = rw (m, e) at d
 other (negsuc k) n t u v h m e d = cc
