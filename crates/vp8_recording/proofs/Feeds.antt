@@ -1,11 +1,7 @@
 -- The loop over the listed frames: the calls that are left, from the state so far, end where all of them end. A turn takes the first.
-use Prim.Native.Nat.{ℕ, ◌+◌, ◌≤◌, ◌<◌}
-use native.Mathlib.Numerals.{add-one}
-use native.Mathlib.Omega.{arith}
-use mathlib.Core.Path.{◌≡◌, refl}
-use mathlib.Core.List.{List, [], ◌∷◌}
-use lib.ListN.{length, get_or, take, drop, length-take, drop_of_length-le}
-use lib.Seq.{drop-cons, get_or-take}
+use Rattle.std.proofs.Common.{◌≡◌, ℕ, ◌+◌, ◌≤◌, ◌<◌, min, List, [], ◌∷◌, length, get_or, take, drop, refl, ap, add-one, arith, drop_of_length-le}
+use native.Mathlib.Decide.{dec_le}
+use lib.Seq.{drop-cons}
 use Rattle.vp8_records.specs.declared.Mode.{Mode}
 use Rattle.vp8_records.specs.declared.Parser.{Parser}
 use Rattle.vp8_records.specs.declared.Parsed.{Parsed}
@@ -13,6 +9,11 @@ use Rattle.rfc6386.specs.Call.{call, after}
 use Rattle.ivf.specs.Walk.{bytes_of}
 use Rattle.ivf.specs.Listed.{places_of}
 use Rattle.vp8_recording.specs.Plays.{all_in}
+
+nothing : (os : List ℕ) → places_of os [] ≡ []
+unfolding places_of
+nothing [] = refl
+nothing (o ∷ os) = refl
 
 -- the frames from the i-th on
 abbrev pub left : List ℕ → List ℕ → List ℕ → ℕ → List (List ℕ)
@@ -27,26 +28,23 @@ module _ (f os ls : List ℕ) (i : ℕ) where
   unfolding bytes_of places_of
   none_left h = rw (drop_of_length-le os h)
 
-pub record Turn (md : Mode) (f os ls : List ℕ) (count : ℕ) (p₀ p : Parser) (i : ℕ) : Type 0 where
-  pub turns : i ≤ count
-  pub state : after p (all_in md (left f (take count os) (take count ls) i))
-      ≡ after p₀ (all_in md (bytes_of f (places_of (take count os) (take count ls))))
+  none_beside : length ls ≤ i → left f os ls i ≡ []
+  unfolding bytes_of places_of
+  none_beside h = rw (drop_of_length-le ls h) (ap (bytes_of f) (nothing (drop i os)))
 
-pub begin : (md : Mode) (f os ls : List ℕ) (count : ℕ) (p : Parser) → Turn md f os ls count p p 0
-begin md f os ls count p = record { turns = omega arith; state = refl }
+pub record Turn (md : Mode) (f os ls : List ℕ) (p₀ p : Parser) (i : ℕ) : Type 0 where
+  pub state : after p (all_in md (left f os ls i)) ≡ after p₀ (all_in md (bytes_of f (places_of os ls)))
 
-module _ {md : Mode} {f os ls : List ℕ} {count : ℕ} {p₀ p : Parser} {i : ℕ} (o : count ≤ length os) (l : count ≤ length ls)
-    (t : Turn md f os ls count p₀ p i) where
-  pub turn : {r : Parsed} → i < count → r ≡ call md p (take (get_or ls i 0) (drop (get_or os i 0) f))
-      → Turn md f os ls count p₀ r.parser (i + 1)
+module _ {md : Mode} {f os ls : List ℕ} {p₀ p : Parser} {i : ℕ} (t : Turn md f os ls p₀ p i) where
+  pub turn : {r : Parsed} → i < length os → i < length ls → r ≡ call md p (take (get_or ls i 0) (drop (get_or os i 0) f))
+      → Turn md f os ls p₀ r.parser (i + 1)
   unfolding after
-  turn {r} h e =
-      let some_os : i < length (take count os) = omega (arith, length-take count os) in
-      let some_ls : i < length (take count ls) = omega (arith, length-take count ls) in
-      let first = next_left f (take count os) (take count ls) i some_os some_ls in
-      let frame = rw (get_or-take count os i 0 h, get_or-take count ls i 0 h) at first in
-      record { turns = omega arith; state = rw e (rw frame at t.state) }
+  turn {r} h g e = record { state = rw e (rw (next_left f os ls i h g) at t.state) }
 
-  pub end : count ≤ i → p ≡ after p₀ (all_in md (bytes_of f (places_of (take count os) (take count ls))))
+  pub end : i ≡ min (length os) (length ls) → p ≡ after p₀ (all_in md (bytes_of f (places_of os ls)))
   unfolding after
-  end h = rw (none_left f (take count os) (take count ls) i (omega (arith, length-take count os))) at t.state
+  end e = go (dec_le (length os) (length ls))
+    where
+      go : Dec (length os ≤ length ls) → p ≡ after p₀ (all_in md (bytes_of f (places_of os ls)))
+      go (yes h) = rw (none_left f os ls i (omega (arith, e, h))) at t.state
+      go (no h) = rw (none_beside f os ls i (omega (arith, e, h))) at t.state

@@ -1,7 +1,7 @@
 // A recording through one parser: the walk, then a call for each frame that it lists, in the file's order.
 #![tactic(auto)]
 
-ghost use Rattle.std.specs.Prelude.{◌≡◌, ◌≤◌, min, length, take, drop};
+ghost use Rattle.std.specs.Prelude.{◌≡◌, min, length, take, drop};
 ghost use Rattle.vp8_records.specs.declared.Mode.TheVariants.{Rust};
 ghost use Rattle.vp8_records.specs.Place.{further};
 ghost use Rattle.rfc6386.specs.Call.{after};
@@ -21,47 +21,22 @@ pub struct Played {
     pub parser: Parser,
 }
 
-fn start_in(size: usize, offset: u64) -> usize
-    ensures { result ≡ min offset size }
-{
-    let from = offset as usize;
-    if from < size { from } else { size }
-}
-
 // The bytes of a listed frame, as far as the file has them, where they stand.
 pub fn frame_at(file: &[u8], offset: u64, size: u32) -> &[u8]
     ensures { (result.now ≡ take size (drop offset file.now))
         × (result.ref_ptr ≡ further (min offset (length file.now)) file.entry.ref_ptr) }
 {
-    let from = start_in(file.len(), offset);
-    let n = size as usize;
-    if n < file.len() - from {
-        let end = from + n;
-        return &file[from..end];
-    }
-    &file[from..]
+    let rest = &file[file.len().min(offset as usize)..];
+    &rest[..rest.len().min(size as usize)]
 }
 
-// The first `count` listed frames, one after the other.
-fn feed(
-    parser: Parser,
-    file: &[u8],
-    offsets: &[u64],
-    lengths: &[u32],
-    count: usize,
-    mode: Mode,
-) -> Parser
-    requires { (count ≤ length offsets.now) × (count ≤ length lengths.now) }
-    ensures { result ≡ after parser (all_in mode
-        (bytes_of file.now (places_of (take count offsets.now) (take count lengths.now)))) }
+// The frames that both lists name, one after the other.
+fn feed(parser: Parser, file: &[u8], offsets: &[u64], lengths: &[u32], mode: Mode) -> Parser
+    ensures { result ≡ after parser (all_in mode (bytes_of file.now (places_of offsets.now lengths.now))) }
 {
     let mut state = parser;
-    let mut i = 0;
-    while i < count {
-        let answer = vp8_parser::parse_in(state, frame_at(file, offsets[i], lengths[i]), mode);
-        let next = answer.parser;
-        state = next;
-        i += 1;
+    for (&offset, &length) in offsets.iter().zip(lengths) {
+        state = vp8_parser::parse_in(state, frame_at(file, offset, length), mode).parser;
     }
     state
 }
@@ -80,7 +55,7 @@ pub fn play_in(
 {
     let walked = ivf::walk(file, offsets, lengths);
     let count = walked.count;
-    let state = feed(parser, file, offsets, lengths, count, mode);
+    let state = feed(parser, file, &offsets[..count], &lengths[..count], mode);
     Played {
         walked,
         parser: state,

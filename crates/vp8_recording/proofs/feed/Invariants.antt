@@ -1,9 +1,6 @@
-use Prim.Native.Nat.{◌-◌}
+use Rattle.std.proofs.Common.{length}
 use Rattle.vp8_recording.proofs.Feeds.{Turn}
 use Rattle.vp8_recording.proofs.feed.Given as goal
 
-abbrev pub invariant-loop-i : goal.invariant-loop-i
-invariant-loop-i l = Turn l.mode l.file l.offsets l.lengths l.count l.initial.state l.state l.i
-
-abbrev pub decreases-loop-i : goal.decreases-loop-i
-decreases-loop-i l = l.count - l.i
+abbrev pub invariant-loop-offset : goal.invariant-loop-offset
+invariant-loop-offset l = Turn l.mode l.file l.offsets l.lengths l.initial.state l.state (length l.yielded)
