@@ -1,37 +1,47 @@
--- A loop that tests each number of a table with the byte at its place: what holds at its head, for any test and table.
-use Prim.Native.Nat.{ℕ, suc, ◌+◌, ◌≤◌, ◌<◌}
+-- A test of each entry of a table with the byte at its place: of equality it is the library's `starts_with`; of any test a loop over both at
+-- once, and what holds at its head.
+use Prim.Native.Nat.{ℕ, ◌≤◌}
 use native.Mathlib.Omega.{arith}
-use native.Mathlib.Numerals.{add-one}
-use mathlib.Core.Path.{◌≡◌, ap, ap₂, sym, ◌∙◌}
+use mathlib.Core.Logic.{◌⊎◌, inl, inr}
+use mathlib.Core.Path.{◌≡◌, refl, ap, ap₂, sym, ◌∙◌}
 use mathlib.Core.Bool.{Bool, true, false, ◌&&◌}
-use mathlib.Core.List.{List}
-use lib.ListN.{length, get_or, drop}
-use lib.Seq.{drop-cons, drop-length}
+use mathlib.Core.List.{List, [], ◌∷◌}
+use lib.Dec.{eqb}
+use lib.ListN.{length}
+use Rattle.std.specs.List.{starts_with}
 use Rattle.vp8_state.specs.Block.{agree}
 
--- the tests from i on give what all of them give
-pub record Agreed (t : ℕ → ℕ → Bool) (ks bs : List ℕ) (whole : Bool) (i j : ℕ) : Type 0 where
-  pub count : i ≤ length ks
-  pub rest : agree t (drop i ks) (drop j bs) ≡ whole
+pub starts : (xs ys : List ℕ) → starts_with eqb ys xs ≡ agree eqb xs ys
+unfolding agree
+starts [] ys = refl
+starts (x ∷ xs) [] = refl
+starts (x ∷ xs) (y ∷ ys) = ap (λ (b : Bool). eqb x y && b) (starts xs ys)
+
+-- the tests that are left give what all of them give
+pub record Agreed {K : Type 0} (t : K → ℕ → Bool) (ks : List K) (bs : List ℕ) (whole : Bool) : Type 0 where
+  pub enough : length ks ≤ length bs
+  pub rest : agree t ks bs ≡ whole
+
+pub begin : {K : Type 0} {t : K → ℕ → Bool} {ks table : List K} {bs bytes : List ℕ} → ks ≡ table → bs ≡ bytes → length table ≤ length bytes
+    → Agreed t ks bs (agree t table bytes)
+begin {t = t} e f h = record { enough = omega (arith, ap length e, ap length f, h); rest = ap₂ (agree t) e f }
 
 module _
-    {t : ℕ → ℕ → Bool} {ks bs : List ℕ} {whole : Bool} {i j : ℕ}
-    (inside : i < length ks) (within : j < length bs) (a : Agreed t ks bs whole i j) where
-  next : t (get_or ks i 0) (get_or bs j 0) && agree t (drop (suc i) ks) (drop (suc j) bs) ≡ whole
+    {K : Type 0} {t : K → ℕ → Bool} {ks ls : List K} {bs cs : List ℕ} {whole : Bool} {k : K} {b : ℕ}
+    (a : Agreed t ks bs whole) (here : ks ≡ k ∷ ls) (there : bs ≡ b ∷ cs) where
+  next : t k b && agree t ls cs ≡ whole
   unfolding agree
-  next = sym (ap₂ (agree t) (drop-cons ks i 0 inside) (drop-cons bs j 0 within)) ∙ a.rest
+  next = sym (ap₂ (agree t) here there) ∙ a.rest
 
-  pub turn : t (get_or ks i 0) (get_or bs j 0) ≡ true → {k : ℕ} → k ≡ suc j → Agreed t ks bs whole (i + 1) k
-  turn h {k} e = record {
-    count = omega arith;
-    rest = ap₂ (λ (x y : ℕ). agree t (drop x ks) (drop y bs)) (add-one i) e ∙ (rw h at next);
-  }
+  pub turn : t k b ≡ true → Agreed t ls cs whole
+  turn h = record { enough = omega (arith, a.enough, ap length here, ap length there); rest = rw h at next }
 
-  pub fails : t (get_or ks i 0) (get_or bs j 0) ≡ false → false ≡ whole
+  pub fails : t k b ≡ false → false ≡ whole
   fails h = rw h at next
 
-pub ends : {t : ℕ → ℕ → Bool} {ks bs : List ℕ} {whole : Bool} {i j : ℕ} → length ks ≤ i → Agreed t ks bs whole i j → true ≡ whole
+pub ends : {K : Type 0} {t : K → ℕ → Bool} {ks : List K} {bs : List ℕ} {whole : Bool} → (length ks ≡ 0) ⊎ (length bs ≡ 0)
+    → Agreed t ks bs whole → true ≡ whole
 unfolding agree
-ends {t} {ks} {bs} {whole} {i} {j} h a =
-    let e : i ≡ length ks = omega (arith, a.count) in
-    sym (ap (λ (x : List ℕ). agree t x (drop j bs)) (ap (λ (n : ℕ). drop n ks) e ∙ drop-length ks)) ∙ a.rest
+ends {ks = []} h a = a.rest
+ends {ks = k ∷ ks} (inl h) a = absurd (omega (arith, h))
+ends {ks = k ∷ ks} (inr h) a = absurd (omega (arith, h, a.enough))

@@ -20,27 +20,14 @@ use Rattle.rfc6386.specs.Decoder.{pick}
 use Rattle.rfc6386_history.specs.Sound.{Sound}
 use Rattle.vp8_flat.specs.Bytes.{segmentation_bytes, adjustment_bytes, flat_modes, kept_bytes}
 use Rattle.vp8_flat.proofs.Whole.{kept_is}
-use Rattle.vp8_state.specs.declared.Verdict.{Verdict}
-use Rattle.vp8_state.specs.declared.Verdict.TheVariants.{Taken, OtherSize, OtherHeading, Fault}
+use Rattle.std.proofs.Common.{Ok, Err}
+use Rattle.vp8_state.specs.declared.BlockRefusal.TheVariants.{OtherSize, OtherHeading, Fault}
 use Rattle.vp8_state.specs.Block.{heading, sections, record_bytes, block, agree, faultless}
 use Rattle.vp8_state.specs.Block.{refusal_of, block_verdict, write_verdict, Causes}
 use Rattle.vp8_state.specs.Laid.{part}
-use Rattle.vp8_state.specs.Handed.{taken, left, record_of, read_block, write_block, state_read, state_write}
+use Rattle.vp8_state.specs.Handed.{left, record_of, read_block, write_block, state_read, state_write}
 use Rattle.vp8_state.proofs.Laid.{Typed, sound_typed, part_is, record_size, record_back, both, Bytes, bytes_back, sound_laid}
 use Rattle.vp8_state.proofs.NoFault.{sound_faultless, faultless_sound}
-
--- by its number
-pub by_number : (v : Verdict) → refusal_of v ≡ 0 → v ≡ Taken
-by_number Taken h = refl
-by_number OtherSize h = absurd (omega (arith, h))
-by_number OtherHeading h = absurd (omega (arith, h))
-by_number Fault h = absurd (omega (arith, h))
-
-pub not_taken : {A : Type 0} (v : Verdict) (x y : A) → (refusal_of v ≡ 0 → ⊥) → taken v x y ≡ y
-not_taken Taken x y h = absurd (h refl)
-not_taken OtherSize x y h = refl
-not_taken OtherHeading x y h = refl
-not_taken Fault x y h = refl
 
 -- what the three tests of a block that is taken say
 pub record IsBlock (b : List ℕ) : Type 0 where
@@ -49,14 +36,14 @@ pub record IsBlock (b : List ℕ) : Type 0 where
   pub fine : faultless (drop 22 b) ≡ true
   pub rest : length (drop 22 b) ≡ 1126
 
-pub is_block : (b : List ℕ) → block_verdict b ≡ Taken → IsBlock b
+pub is_block : (b : List ℕ) → block_verdict b ≡ Ok tt → IsBlock b
 unfolding block_verdict
 is_block b h =
     let t = go (eqb (length b) 1148) (agree eqb heading b) (faultless (drop 22 b)) (ap refusal_of h) in
     let n = eqb-true _ _ t.0 in
     record { size = n; head = t.1; fine = t.2; rest = length-drop 22 b ∙ omega (arith, n) }
   where
-    go : (x y z : Bool) → refusal_of (pick x (pick y (pick z Taken Fault) OtherHeading) OtherSize) ≡ 0 → (x ≡ true) × (y ≡ true) × (z ≡ true)
+    go : (x y z : Bool) → refusal_of (pick x (pick y (pick z (Ok tt) (Err Fault)) (Err OtherHeading)) (Err OtherSize)) ≡ 0 → (x ≡ true) × (y ≡ true) × (z ≡ true)
     go true true true h = (refl, refl, refl)
     go true true false h = absurd (omega (arith, h))
     go true false z h = absurd (omega (arith, h))
@@ -84,7 +71,7 @@ agrees (k ∷ ks) (b ∷ bs) h =
 -- the verdict by its tests, of which the first two decide L and H
 module _ (L H : Type 0) where
   abbrev Told : Bool → Bool → Bool → ℕ → Type 0
-  Told x y z n = refusal_of (pick x (pick y (pick z Taken Fault) OtherHeading) OtherSize) ≡ n
+  Told x y z n = refusal_of (pick x (pick y (pick z (Ok tt) (Err Fault)) (Err OtherHeading)) (Err OtherSize)) ≡ n
 
   told_13 : (x y z : Bool) → ((x ≡ true) ↔ L) → Told x y z 13 ↔ (L → ⊥)
   told_13 false y z l = (λ e h. false≢true (l.1 h), λ n. refl)
@@ -137,7 +124,7 @@ causes b =
     head = (λ h. begins heading b h, λ h. agrees heading b h)
 
 -- of a block that is taken: its record has no fault, and its block is this one
-module _ (b : List ℕ) (bytes : Bytes b) (h : block_verdict b ≡ Taken) where
+module _ (b : List ℕ) (bytes : Bytes b) (h : block_verdict b ≡ Ok tt) where
   pub taken_sound : Sound (record_of b)
   taken_sound = let t = is_block b h in sound_laid (drop 22 b) t.rest t.fine
 
@@ -151,7 +138,7 @@ module _ (b : List ℕ) (bytes : Bytes b) (h : block_verdict b ≡ Taken) where
   taken_block = ap₂ {C = List ℕ} (λ xs ys. xs ++ ys) (sym (begins heading b (is_block b h).head)) taken_bytes ∙ take-append-drop 22 b
 
 -- two blocks that are taken and have one record are equal
-pub one_block : (b c : List ℕ) → Bytes b → Bytes c → block_verdict b ≡ Taken → block_verdict c ≡ Taken → record_of b ≡ record_of c → b ≡ c
+pub one_block : (b c : List ℕ) → Bytes b → Bytes c → block_verdict b ≡ Ok tt → block_verdict c ≡ Ok tt → record_of b ≡ record_of c → b ≡ c
 one_block b c x y h g e = sym (taken_block b x h) ∙ ap block e ∙ taken_block c y g
 
 -- a record without fault has a block, of the right size, which is taken and gives the record back
@@ -168,7 +155,7 @@ module _ (p : Parser) (s : Sound p) where
   unfolding block heading agree
   headed = refl
 
-  pub block_taken : block_verdict (block p) ≡ Taken
+  pub block_taken : block_verdict (block p) ≡ Ok tt
   unfolding block_verdict
   block_taken = rw (eq-eqb (length (block p)) 1148 block_size, headed, rest_of, sound_faultless p s)
 
@@ -176,11 +163,11 @@ module _ (p : Parser) (s : Sound p) where
   record_of_lem = rw rest_of (record_back p (sound_typed p s))
 
   -- reading what was written gives the same record
-  pub read_back : read_block (block p) ≡ record { verdict = Taken; parser = p }
+  pub read_back : read_block (block p) ≡ record { verdict = Ok tt; parser = p }
   unfolding read_block
   read_back = rw (block_taken, record_of_lem)
 
-  pub write_taken : (b : List ℕ) → length b ≡ 1148 → write_block p b ≡ left Taken (block p)
+  pub write_taken : (b : List ℕ) → length b ≡ 1148 → write_block p b ≡ left (Ok tt) (block p)
   unfolding write_block write_verdict
   write_taken b n = rw (eq-eqb (length b) 1148 n, sound_faultless p s)
 
@@ -220,18 +207,18 @@ pub one_record : (p q : Parser) → Sound p → Sound q → block p ≡ block q 
 one_record p q s t e = sym (record_of_lem p s) ∙ ap record_of e ∙ record_of_lem q t
 
 -- what is written, of a record of the machine, has no fault; so each record that can be written has just one block
-pub written_sound : (p : Parser) (b : List ℕ) → Typed p → (write_block p b).answer ≡ Taken → Sound p
+pub written_sound : (p : Parser) (b : List ℕ) → Typed p → (write_block p b).answer ≡ Ok tt → Sound p
 unfolding write_block write_verdict
 written_sound p b t h =
     faultless_sound p t (go (eqb (length b) 1148) (faultless (record_bytes p)) (ap refusal_of h))
   where
-    go : (x y : Bool) → refusal_of (pick x (pick y Taken Fault) OtherSize) ≡ 0 → y ≡ true
+    go : (x y : Bool) → refusal_of (pick x (pick y (Ok tt) (Err Fault)) (Err OtherSize)) ≡ 0 → y ≡ true
     go true true h = refl
     go true false h = absurd (omega (arith, h))
     go false y h = absurd (omega (arith, h))
 
 -- the flat record of a block that is taken makes the same block again
-pub through_flat : (b o c : List ℕ) → Bytes b → block_verdict b ≡ Taken → length o ≡ 1126 → length c ≡ 1148
+pub through_flat : (b o c : List ℕ) → Bytes b → block_verdict b ≡ Ok tt → length o ≡ 1126 → length c ≡ 1148
     → state_write (state_read b o).buffer c ≡ left 0 b
 unfolding state_read state_write write_verdict
 through_flat b o c bytes h n m =

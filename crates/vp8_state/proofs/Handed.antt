@@ -1,6 +1,7 @@
 -- Calls over a block are calls over its record, since a call leaves no fault; so what is proved of calls holds of exported ones, by
 -- induction over them, and a record may be handed over between any two.
 use Prim.Native.Nat.{ℕ}
+use native.Mathlib.Omega.{arith}
 use mathlib.Core.Path.{◌≡◌, refl, ap, ap₂, sym, ◌∙◌}
 use mathlib.Core.Bool.{true, false}
 use mathlib.Core.List.{List, [], ◌∷◌, ◌++◌, map}
@@ -22,14 +23,14 @@ use Rattle.rfc6386_history.specs.Answered.{Answered, ByValue}
 use Rattle.rfc6386_history.proofs.Sound.{sound_call, sound_after}
 use Rattle.rfc6386_history.proofs.History.{after_append, calls_append, cut_off_after, last_writer_from}
 use Rattle.rfc6386_history.proofs.Answered.{parse_answers}
-use Rattle.vp8_state.specs.declared.Verdict.{Verdict}
-use Rattle.vp8_state.specs.declared.Verdict.TheVariants.{Taken, OtherSize, OtherHeading, Fault}
-use Rattle.vp8_state.specs.declared.ReadAnswer.{ReadAnswer}
-use Rattle.vp8_state.specs.Block.{block, refusal_of, block_verdict}
-use Rattle.vp8_state.specs.Handed.{taken, Left, left, record_of, read_block, write_block, Offer, asked, handed, state_parse}
+use Rattle.std.proofs.Common.{Result, Ok, Err}
+use Rattle.vp8_state.specs.declared.BlockRefusal.{BlockRefusal}
+use Rattle.vp8_state.specs.declared.BlockRefusal.TheVariants.{OtherSize, OtherHeading, Fault}
+use Rattle.vp8_state.specs.Block.{block, Verdict, refusal_of, block_verdict}
+use Rattle.vp8_state.specs.Handed.{ReadAnswer, or_refused, answered, taken, Left, left, record_of, read_block, write_block, Offer, asked, handed, state_parse}
 use Rattle.vp8_state.specs.Handed.{Exported, stop, own, other, the_calls, calls_answers}
 use Rattle.vp8_state.proofs.Laid.{Bytes}
-use Rattle.vp8_state.proofs.Blocks.{by_number, is_block, taken_sound, block_taken, record_of_lem, read_back, write_taken}
+use Rattle.vp8_state.proofs.Blocks.{is_block, taken_sound, block_taken, record_of_lem, read_back, write_taken}
 
 -- over the block of a record without fault
 pub parse_block : (p : Parser) (x : Offer) → Sound p → state_parse (block p) x ≡ handed p (asked x)
@@ -37,46 +38,52 @@ unfolding state_parse
 parse_block p x s = rw (block_taken p s, record_of_lem p s)
 
 -- over a block that is refused
-module _ (b : List ℕ) (x : Offer) (h : block_verdict b ≡ Taken → ⊥) where
+module _ (b : List ℕ) (x : Offer) (h : block_verdict b ≡ Ok tt → ⊥) where
   pub parse_refused : state_parse b x ≡ left (refusal_of (block_verdict b)) b
   unfolding state_parse
   parse_refused = go (block_verdict b) h
     where
-      go : (v : Verdict) → (v ≡ Taken → ⊥) → taken v (handed (record_of b) (asked x)) (left (refusal_of v) b) ≡ left (refusal_of v) b
-      go Taken g = absurd (g refl)
-      go OtherSize g = refl
-      go OtherHeading g = refl
-      go Fault g = refl
+      go : (v : Verdict) → (v ≡ Ok tt → ⊥) → taken v (handed (record_of b) (asked x)) (left (refusal_of v) b) ≡ left (refusal_of v) b
+      go (Ok e) g = absurd (g refl)
+      go (Err r) g = refl
 
 -- an exported call out of its steps: the block read, the call, the block written
-module _ (b : List ℕ) (x : Offer) (a : ReadAnswer) (read : a ≡ read_block b) where
-  verdict_is : a.verdict ≡ block_verdict b
-  unfolding read_block
-  verdict_is = ap (λ (y : ReadAnswer). y.verdict) read
-
-  pub steps_refused : (r : ℕ) → r ≡ refusal_of a.verdict → (r ≡ 0 → ⊥) → left r b ≡ state_parse b x
-  steps_refused r e h =
-      let n : r ≡ refusal_of (block_verdict b) = e ∙ ap refusal_of verdict_is in
-      ap (λ (i : ℕ). left i b) n ∙ sym (parse_refused b x (λ z. h (n ∙ ap refusal_of z)))
-
-  pub steps_called : Bytes b → refusal_of a.verdict ≡ 0 → (y : Parsed) → y ≡ called a.parser (asked x) → (v : Verdict) (c : List ℕ)
-      → left v c ≡ write_block y.parser b → (r : ℕ) → r ≡ number_of y.outcome → left r c ≡ state_parse b x
+module _ (b : List ℕ) (x : Offer) {r : Result Parser BlockRefusal} (read : r ≡ answered (read_block b)) where
+  pub steps_refused : {e : BlockRefusal} → r ≡ Err e → left (refusal_of (Err e)) b ≡ state_parse b x
   unfolding read_block state_parse
-  steps_called bytes z y e v c w r n =
-      let h : block_verdict b ≡ Taken = sym verdict_is ∙ by_number a.verdict z in
-      let p : a.parser ≡ record_of b = ap (λ (q : ReadAnswer). q.parser) read ∙ ap (λ (u : Verdict). taken u (record_of b) fresh) h in
-      let k : y ≡ called (record_of b) (asked x) = e ∙ ap (λ (q : Parser). called q (asked x)) p in
+  steps_refused {e} k = go (block_verdict b) (sym k ∙ read)
+    where
+      go : (v : Verdict) → Err e ≡ or_refused v (taken v (record_of b) fresh)
+          → left (refusal_of (Err e)) b ≡ taken v (handed (record_of b) (asked x)) (left (refusal_of v) b)
+      go (Ok u) h = absurd (let z : ◌≡◌ {A = ℕ} 0 1 = cc in omega arith)
+      go (Err d) h = let s : e ≡ d = cc in ap (λ (i : BlockRefusal). left (refusal_of (Err i)) b) s
+
+  read_is : {p : Parser} → r ≡ Ok p → (block_verdict b ≡ Ok tt) × (p ≡ record_of b)
+  unfolding read_block
+  read_is {p} k = go (block_verdict b) (sym k ∙ read)
+    where
+      go : (v : Verdict) → Ok p ≡ or_refused v (taken v (record_of b) fresh) → (v ≡ Ok tt) × (p ≡ record_of b)
+      go (Ok u) h = let s : p ≡ record_of b = cc in (refl, s)
+      go (Err d) h = absurd (let z : ◌≡◌ {A = ℕ} 0 1 = cc in omega arith)
+
+  pub steps_called : Bytes b → {p : Parser} → r ≡ Ok p → (y : Parsed) → y ≡ called p (asked x) → (v : Verdict) (c : List ℕ)
+      → left v c ≡ write_block y.parser b → (n : ℕ) → n ≡ number_of y.outcome → left n c ≡ state_parse b x
+  unfolding state_parse
+  steps_called bytes i y e v c w n m =
+      let t = read_is i in
+      let h = t.0 in
+      let k : y ≡ called (record_of b) (asked x) = e ∙ ap (λ (q : Parser). called q (asked x)) t.1 in
       let s : Sound y.parser = rw k (sound_call (record_of b) (asked x) (taken_sound b bytes h)) in
       let d : c ≡ block y.parser = ap (λ (l : Left Verdict). l.buffer) (w ∙ write_taken y.parser s b (is_block b h).size) in
       rw h
-      (ap₂ {C = Left ℕ} (λ i l. left i l) n d ∙ ap (λ (q : Parsed). left (number_of q.outcome) (block q.parser)) k)
+      (ap₂ {C = Left ℕ} (λ i l. left i l) m d ∙ ap (λ (q : Parsed). left (number_of q.outcome) (block q.parser)) k)
 
 -- a refusal of the block is 13 or more, a call's is less
-no_call : (v : Verdict) → (v ≡ Taken → ⊥) → ltb (refusal_of v) 13 ≡ false
-no_call Taken h = absurd (h refl)
-no_call OtherSize h = refl
-no_call OtherHeading h = refl
-no_call Fault h = refl
+no_call : (v : Verdict) → (v ≡ Ok tt → ⊥) → ltb (refusal_of v) 13 ≡ false
+no_call (Ok e) h = absurd (h refl)
+no_call (Err OtherSize) h = refl
+no_call (Err OtherHeading) h = refl
+no_call (Err Fault) h = refl
 
 a_call : (o : Outcome) → ltb (number_of o) 13 ≡ true
 a_call Accepted = refl
@@ -113,7 +120,7 @@ exported_runs b (x ∷ xs) =
     (l.answer ∷ n.0, n.1, own refl n.2)
 
 -- over a block that is refused nothing is a call, and it stays as it is
-pub exported_none : {b d : List ℕ} {xs : List Offer} {rs : List ℕ} → (block_verdict b ≡ Taken → ⊥) → Exported b xs rs d
+pub exported_none : {b d : List ℕ} {xs : List Offer} {rs : List ℕ} → (block_verdict b ≡ Ok tt → ⊥) → Exported b xs rs d
     → (d ≡ b) × (the_calls xs rs ≡ [])
 unfolding the_calls
 exported_none h stop = (refl, refl)
@@ -165,24 +172,26 @@ exported_over p {xs = xs} {ys} {zs} {rs} {ss} {ts} s a b o h =
     ∙ ap (λ (l : List Asked). block (after p l)) h ∙ ap block (after_append p x y)
     ∙ sym (exported_is (after p x) (sound_after p x s) k b).0
 
--- the same of records: A calls `parse` on xs and writes its record q into a block; B reads that and calls `parse` on ys. No step is
--- refused, and the answers and the record are those of one process that is asked xs and then ys
+-- the same of records: A calls `parse` on xs and writes its record q into a block; B reads that, r is what code answers, and calls `parse`
+-- on ys. No step is refused, and the answers and the record are those of one process that is asked xs and then ys
 pub handed_over : (p : Parser) {q s t : Parser} {xs ys : List Asked} {rs ss ts : List Parsed} (b d : List ℕ) (v : Verdict) (a : ReadAnswer)
-    → Sound p → Answered Parsed ByValue p xs rs q → length b ≡ 1148 → left v d ≡ write_block q b → a ≡ read_block d
+    (r : Result Parser BlockRefusal)
+    → Sound p → Answered Parsed ByValue p xs rs q → length b ≡ 1148 → left v d ≡ write_block q b → a ≡ read_block d → r ≡ answered (read_block d)
     → Answered Parsed ByValue a.parser ys ss s → Answered Parsed ByValue p (xs ++ ys) ts t
-    → (v ≡ Taken) × (a.verdict ≡ Taken) × (t ≡ s) × (ts ≡ rs ++ ss)
-handed_over p {q} {xs = xs} {ys} {rs} {ss} {ts} b d v a z one n w r two all =
+    → (v ≡ Ok tt) × (a.verdict ≡ Ok tt) × (r ≡ Ok a.parser) × (t ≡ s) × (ts ≡ rs ++ ss)
+handed_over p {q} {xs = xs} {ys} {rs} {ss} {ts} b d v a r z one n w k i two all =
     let e = parse_answers one in
     let q_is : q ≡ after p xs = e.1 in
     let sound : Sound q = rw q_is (sound_after p xs z) in
-    let k : left v d ≡ left Taken (block q) = w ∙ write_taken q sound b n in
-    let read : a ≡ record { verdict = Taken; parser = q } =
-    r ∙ ap (λ (l : Left Verdict). read_block l.buffer) k ∙ read_back q sound in
+    let wrote : left v d ≡ left (Ok tt) (block q) = w ∙ write_taken q sound b n in
+    let read : a ≡ record { verdict = Ok tt; parser = q } =
+    k ∙ ap (λ (l : Left Verdict). read_block l.buffer) wrote ∙ read_back q sound in
     let back : a.parser ≡ after p xs = ap (λ (y : ReadAnswer). y.parser) read ∙ q_is in
     let f = parse_answers two in
     let g = parse_answers all in (
-      ap (λ (l : Left Verdict). l.answer) k,
+      ap (λ (l : Left Verdict). l.answer) wrote,
       ap (λ (y : ReadAnswer). y.verdict) read,
+      i ∙ ap answered (sym k ∙ read) ∙ ap (λ (y : ReadAnswer). Ok y.parser) (sym read),
       g.1 ∙ after_append p xs ys ∙ ap (λ (y : Parser). after y ys) (sym back) ∙ sym f.1,
       g.0 ∙ calls_append p xs ys
           ∙ ap₂ {C = List Parsed} (λ x y. x ++ y) (sym e.0) (ap (λ (y : Parser). calls y ys) (sym back) ∙ sym f.0),

@@ -16,7 +16,7 @@ use Rattle.vp8_records.proofs.Arrays.{every_of}
 use Rattle.vp8_records.proofs.Typed.{typed_sized}
 use Rattle.vp8_records.specs.contracts.Parser as Held
 use Rattle.rfc6386_history.specs.Sound.{Sound}
-use Rattle.vp8_state.specs.declared.Verdict.TheVariants.{Taken}
+use Rattle.std.proofs.Common.{Ok}
 use Rattle.vp8_state.specs.Block.{block}
 use Rattle.vp8_state.specs.Handed.{read_block, write_block}
 use Rattle.vp8_state.proofs.Laid.{Typed}
@@ -44,9 +44,9 @@ module _ (p : Parser) (vs : List Val) (held : Is Held.the_row p vs) where
       }
 
   -- a record that can be written has a block, which is taken and gives it back
-  module _ (b : List ℕ) (h : (write_block p b).answer ≡ Taken) where
+  module _ (b : List ℕ) (h : (write_block p b).answer ≡ Ok tt) where
     pub held_sound : Sound p
     held_sound = written_sound p b held_typed h
 
-    pub held_back : read_block (block p) ≡ record { verdict = Taken; parser = p }
+    pub held_back : read_block (block p) ≡ record { verdict = Ok tt; parser = p }
     held_back = read_back p held_sound

@@ -25,6 +25,8 @@ use Rattle.rfc6386_history.specs.Kept.{all}
 use Rattle.rfc6386_history.specs.Sound.{Sound}
 use Rattle.rfc6386_history.proofs.Numbers.{length_all}
 use Rattle.vp8_flat.specs.Bytes.{bit_of}
+use Rattle.vp8_state.specs.declared.Kind.{Kind}
+use Rattle.vp8_state.specs.declared.Kind.TheVariants.{Any, Flag, UpTo}
 use Rattle.vp8_state.specs.Block.{record_bytes, agree, allows, kinds, faultless}
 use Rattle.vp8_state.specs.Laid.{part, flag_at, signed_at, parser_of}
 
@@ -178,12 +180,13 @@ both true b h = (refl, h)
 both false b h = absurd (false≢true h)
 
 -- each test of a table that agrees
-agree_at : (t : ℕ → ℕ → Bool) (ks bs : List ℕ) → agree t ks bs ≡ true → (i : ℕ) → i < length ks → t (get_or ks i 0) (get_or bs i 0) ≡ true
+agree_at : {K : Type 0} (t : K → ℕ → Bool) (d : K) (ks : List K) (bs : List ℕ) → agree t ks bs ≡ true → (i : ℕ) → i < length ks
+    → t (get_or ks i d) (get_or bs i 0) ≡ true
 unfolding agree
-agree_at t [] bs h i g = absurd (not-suc-le-zero g)
-agree_at t (k ∷ ks) [] h i g = absurd (false≢true h)
-agree_at t (k ∷ ks) (b ∷ bs) h zero g = (both (t k b) (agree t ks bs) h).0
-agree_at t (k ∷ ks) (b ∷ bs) h (suc i) g = agree_at t ks bs (both (t k b) (agree t ks bs) h).1 i (le_of_suc-le-suc g)
+agree_at t d [] bs h i g = absurd (not-suc-le-zero g)
+agree_at t d (k ∷ ks) [] h i g = absurd (false≢true h)
+agree_at t d (k ∷ ks) (b ∷ bs) h zero g = (both (t k b) (agree t ks bs) h).0
+agree_at t d (k ∷ ks) (b ∷ bs) h (suc i) g = agree_at t d ks bs (both (t k b) (agree t ks bs) h).1 i (le_of_suc-le-suc g)
 
 flag_back : (x : ℕ) → ltb x 2 ≡ true → bit_of (eqb x 1) ≡ x
 flag_back zero h = refl
@@ -222,12 +225,12 @@ module _ (b : List ℕ) (size : length b ≡ 1126) where
       ∙ take-append-drop n (drop at b)
 
   module _ (fine : faultless b ≡ true) where
-    allowed : (i : ℕ) → i < 25 → allows (get_or kinds i 0) (get_or b i 0) ≡ true
+    allowed : (i : ℕ) → i < 25 → allows (get_or kinds i Any) (get_or b i 0) ≡ true
     unfolding kinds
-    allowed i h = agree_at allows kinds b fine i h
+    allowed i h = agree_at allows Any kinds b fine i h
 
-    flag : (i : ℕ) → i < 25 → get_or kinds i 0 ≡ 1 → bit_of (flag_at i b) ≡ get_or b i 0
-    flag i h k = flag_back (get_or b i 0) (subst (λ (x : ℕ). allows x (get_or b i 0) ≡ true) k (allowed i h))
+    flag : (i : ℕ) → i < 25 → get_or kinds i Any ≡ Flag → bit_of (flag_at i b) ≡ get_or b i 0
+    flag i h k = flag_back (get_or b i 0) (subst (λ (x : Kind). allows x (get_or b i 0) ≡ true) k (allowed i h))
 
     -- the bytes of the record that bytes without fault lay out
     pub bytes_back : Bytes b → record_bytes (parser_of b) ≡ b
@@ -273,18 +276,18 @@ module _ (b : List ℕ) (size : length b ≡ 1126) where
         luma = part_size 1119 4 (lit≤ tt);
         chroma = part_size 1123 3 (lit≤ tt);
       };
-      quantizers = within 125 4 (lit≤ tt) (lit≤ tt) (same 4 refl refl refl refl);
-      levels = within 61 8 (lit≤ tt) (lit≤ tt) (same 8 refl refl refl refl);
-      frames = within 61 17 (lit≤ tt) (lit≤ tt) (same 17 refl refl refl refl);
-      modes = within 61 21 (lit≤ tt) (lit≤ tt) (same 21 refl refl refl refl);
+      quantizers = within 127 4 (lit≤ tt) (lit≤ tt) (same 4 refl refl refl refl);
+      levels = within 63 8 (lit≤ tt) (lit≤ tt) (same 8 refl refl refl refl);
+      frames = within 63 17 (lit≤ tt) (lit≤ tt) (same 17 refl refl refl refl);
+      modes = within 63 21 (lit≤ tt) (lit≤ tt) (same 21 refl refl refl refl);
     }
       where
         signed_part : (at : ℕ) → at + 4 ≤ 1126 → length (signed_at at b) ≡ 4
         signed_part at h = length-map (part at 4 b) (to_z w8) ∙ part_size at 4 h
 
         -- four kinds that are all k
-        same : (at : ℕ) {k : ℕ} → get_or kinds at 0 ≡ k → get_or kinds (at + 1) 0 ≡ k → get_or kinds (at + 2) 0 ≡ k → get_or kinds (at + 3) 0 ≡ k
-            → (i : ℕ) → i < 4 → get_or kinds (at + i) 0 ≡ k
+        same : (at : ℕ) {k : Kind} → get_or kinds at Any ≡ k → get_or kinds (at + 1) Any ≡ k → get_or kinds (at + 2) Any ≡ k
+            → get_or kinds (at + 3) Any ≡ k → (i : ℕ) → i < 4 → get_or kinds (at + i) Any ≡ k
         same at a b c d zero h = rw add-zero a
         same at a b c d (suc zero) h = b
         same at a b c d (suc (suc zero)) h = c
@@ -295,9 +298,9 @@ module _ (b : List ℕ) (size : length b ≡ 1126) where
         mapped n [] g = tt
         mapped n (x ∷ xs) g = (g.0, mapped n xs g.1)
 
-        within : (n at : ℕ) → at + 4 ≤ 25 → at + 4 ≤ 1126 → ((i : ℕ) → i < 4 → get_or kinds (at + i) 0 ≡ suc (suc n))
-            → Every (Within (suc (suc n))) (signed_at at b)
+        within : (n at : ℕ) → at + 4 ≤ 25 → at + 4 ≤ 1126 → ((i : ℕ) → i < 4 → get_or kinds (at + i) Any ≡ UpTo n)
+            → Every (Within n) (signed_at at b)
         within n at f h k =
-            mapped (suc (suc n)) (part at 4 b)
-            (over_part (λ x. Within (suc (suc n)) (to_z w8 x)) at 4 h (λ i l.
-            leb-true _ _ (subst (λ (x : ℕ). allows x (get_or b (at + i) 0) ≡ true) (k i l) (allowed (at + i) (omega (arith, f, l))))))
+            mapped n (part at 4 b)
+            (over_part (λ x. Within n (to_z w8 x)) at 4 h (λ i l.
+            leb-true _ _ (subst (λ (x : Kind). allows x (get_or b (at + i) 0) ≡ true) (k i l) (allowed (at + i) (omega (arith, f, l))))))

@@ -14,16 +14,18 @@ use Rattle.vp8_records.specs.declared.Parser.{Parser}
 use Rattle.vp8_records.specs.Layout.{joined, flat_coeffs, flat_mv}
 use Rattle.rfc6386.specs.Decoder.{pick}
 use Rattle.vp8_flat.specs.Bytes.{segmentation_bytes, adjustment_bytes, flat_modes}
-use Rattle.vp8_state.specs.declared.Verdict.TheVariants.{Taken, OtherSize, Fault}
+use Rattle.std.proofs.Common.{Ok, Err}
+use Rattle.vp8_state.specs.declared.BlockRefusal.{BlockRefusal}
+use Rattle.vp8_state.specs.declared.BlockRefusal.TheVariants.{OtherSize, Fault}
 use Rattle.vp8_state.specs.Block.{heading, record_bytes, block, agree, allows, kinds, faultless, refusal_of, block_verdict, write_verdict}
 use Rattle.vp8_state.specs.Laid.{parser_of}
 use Rattle.vp8_state.specs.Handed.{taken, left, write_block, state_read, state_write}
 use Rattle.vp8_state.proofs.Pastes.{begin, more, whole}
 use Rattle.vp8_state.proofs.Laid.{Bytes, bytes_back}
-use Rattle.vp8_state.proofs.Blocks.{not_taken, is_block, taken_bytes}
+use Rattle.vp8_state.proofs.Blocks.{taken_bytes}
 
 -- a table looks at no more bytes than it has numbers
-agree_front : (t : ℕ → ℕ → Bool) (ks xs ys : List ℕ) → length ks ≤ length xs → agree t ks (xs ++ ys) ≡ agree t ks xs
+agree_front : {K : Type 0} (t : K → ℕ → Bool) (ks : List K) (xs ys : List ℕ) → length ks ≤ length xs → agree t ks (xs ++ ys) ≡ agree t ks xs
 unfolding agree
 agree_front t [] xs ys h = refl
 agree_front t (k ∷ ks) [] ys h = absurd (omega arith)
@@ -38,17 +40,17 @@ module _ (p : Parser) (b first : List ℕ) (is : first ≡ segmentation_bytes p.
   unfolding kinds
   tested n = ap (agree allows kinds) in_front ∙ agree_front allows kinds first _ (omega (arith, n))
 
-  pub refused_fault : length b ≡ 1148 → length first ≡ 25 → faultless first ≡ false → left Fault b ≡ write_block p b
+  pub refused_fault : length b ≡ 1148 → length first ≡ 25 → faultless first ≡ false → left (Err Fault) b ≡ write_block p b
   unfolding write_block write_verdict
   refused_fault n m h = rw (eq-eqb (length b) 1148 n, tested m, h)
 
   pub was_written : length b ≡ 1148 → length first ≡ 25 → faultless first ≡ true → {c : List ℕ}
       → c ≡ heading ++ first ++ flat_coeffs p.coeff_prob ++ flat_mv p.mv_prob ++ flat_modes p.mode_probs
-      → left Taken c ≡ write_block p b
+      → left (Ok tt) c ≡ write_block p b
   unfolding write_block write_verdict block
-  was_written n m h e = rw (eq-eqb (length b) 1148 n, tested m, h, in_front) (ap (left Taken) (e ∙ simp append_assoc))
+  was_written n m h e = rw (eq-eqb (length b) 1148 n, tested m, h, in_front) (ap (left (Ok tt)) (e ∙ simp append_assoc))
 
-pub refused_size : (p : Parser) (b : List ℕ) → (length b ≡ 1148 → ⊥) → left OtherSize b ≡ write_block p b
+pub refused_size : (p : Parser) (b : List ℕ) → (length b ≡ 1148 → ⊥) → left (Err OtherSize) b ≡ write_block p b
 unfolding write_block write_verdict
 refused_size p b h = rw (ne_eqb (length b) 1148 h)
 
@@ -62,7 +64,7 @@ module _ (s b : List ℕ) where
   unfolding state_write write_verdict
   other_block h = rw (ne_eqb (length b) 1148 h) (go (eqb (length s) 1126))
     where
-      go : (x : Bool) → left 13 b ≡ (let v = pick x OtherSize OtherSize in left (refusal_of v) (taken v (block (parser_of s)) b))
+      go : (x : Bool) → left 13 b ≡ (let v = pick x (Err OtherSize) (Err OtherSize) in left (refusal_of v) (taken v (block (parser_of s)) b))
       go true = refl
       go false = refl
 
@@ -97,14 +99,10 @@ module _ (b o : List ℕ) where
   other_buffer h = rw (ne_eqb (length o) 1126 h)
 
   module _ (n : length o ≡ 1126) where
-    pub not_read : (refusal_of (block_verdict b) ≡ 0 → ⊥) → left (refusal_of (block_verdict b)) o ≡ state_read b o
+    pub not_read : {e : BlockRefusal} → Err e ≡ block_verdict b → left (refusal_of (Err e)) o ≡ state_read b o
     unfolding state_read
-    not_read h = rw (eq-eqb (length o) 1126 n) (ap (left (refusal_of (block_verdict b))) (sym (not_taken (block_verdict b) _ o h)))
+    not_read h = rw (eq-eqb (length o) 1126 n, ← h)
 
-    pub was_read : Bytes b → block_verdict b ≡ Taken → {c : List ℕ} → c ≡ paste o 0 (drop 22 b) (length (drop 22 b))
-        → left 0 c ≡ state_read b o
+    pub was_read : Bytes b → block_verdict b ≡ Ok tt → {c : List ℕ} → c ≡ drop 22 b → left 0 c ≡ state_read b o
     unfolding state_read
-    was_read bytes h {c} p =
-        let t = is_block b h in
-        let e : c ≡ drop 22 b = whole (more [] (drop 22 b) 0 (begin n) refl (omega (arith, t.rest)) p) t.rest in
-        rw (eq-eqb (length o) 1126 n, h) (ap (left 0) (e ∙ sym (taken_bytes b bytes h)))
+    was_read bytes h {c} e = rw (eq-eqb (length o) 1126 n, h) (ap (left 0) (e ∙ sym (taken_bytes b bytes h)))

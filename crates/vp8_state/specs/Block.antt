@@ -1,6 +1,6 @@
 -- The parser record as a block of bytes (docs/RULES.md, the block): the definition, from a record to its bytes, and when bytes are
 -- refused as a block, or as a record to be written into one.
-use Rattle.std.specs.Prelude.{ℕ, zero, suc, ◌/◌, ◌%◌, ◌↔◌, ◌≡◌, Bool, true, false, ◌&&◌, List, [], ◌∷◌, ◌++◌, leb, ltb, eqb, nat_abs, length, take, drop}
+use Rattle.std.specs.Prelude.{ℕ, ◌/◌, ◌%◌, ◌↔◌, ◌≡◌, Bool, true, false, ◌&&◌, List, [], ◌∷◌, ◌++◌, Result, Ok, Err, leb, ltb, eqb, nat_abs, length, replicate, take, drop}
 use Rattle.std.proofs.Common.{to_z}
 use Rattle.std.specs.Int.{w8}
 use Rattle.vp8_records.specs.declared.Parser.{Parser}
@@ -8,8 +8,10 @@ use Rattle.vp8_records.specs.Layout.{flat_coeffs, flat_mv}
 use Rattle.rfc6386.specs.Decoder.{pick}
 use Rattle.rfc6386_history.specs.Kept.{all}
 use Rattle.vp8_flat.specs.Bytes.{segmentation_bytes, adjustment_bytes, flat_modes}
-use Rattle.vp8_state.specs.declared.Verdict.{Verdict}
-use Rattle.vp8_state.specs.declared.Verdict.TheVariants.{Taken, OtherSize, OtherHeading, Fault}
+use Rattle.vp8_state.specs.declared.Kind.{Kind}
+use Rattle.vp8_state.specs.declared.Kind.TheVariants.{Any, Flag, UpTo}
+use Rattle.vp8_state.specs.declared.BlockRefusal.{BlockRefusal}
+use Rattle.vp8_state.specs.declared.BlockRefusal.TheVariants.{OtherSize, OtherHeading, Fault}
 
 -- a number of two bytes, the low one first
 abbrev pub le : ℕ → List ℕ
@@ -37,46 +39,53 @@ record_bytes p = all (sections p)
 unfoldable pub block : Parser → List ℕ
 block p = heading ++ record_bytes p
 
--- a test of each number of a table with the byte at its place
-unfoldable pub agree : (ℕ → ℕ → Bool) → List ℕ → List ℕ → Bool
+-- a test of each entry of a table with the byte at its place
+unfoldable pub agree : {K : Type 0} → (K → ℕ → Bool) → List K → List ℕ → Bool
 agree t [] bs = true
 agree t (k ∷ ks) [] = false
 agree t (k ∷ ks) (b ∷ bs) = t k b && agree t ks bs
 
--- what a byte may be: with 0 anything, with 1 a flag, else a signed number of at most this magnitude
-abbrev pub allows : ℕ → ℕ → Bool
-allows zero b = true
-allows (suc zero) b = ltb b 2
-allows (suc (suc n)) b = leb (nat_abs (to_z w8 b)) (suc (suc n))
+-- what a byte may be: anything, a flag, or a signed number of at most this magnitude
+abbrev pub allows : Kind → ℕ → Bool
+allows Any b = true
+allows Flag b = ltb b 2
+allows (UpTo n) b = leb (nat_abs (to_z w8 b)) n
 
 -- segmentation: four flags, the quantizers, the filter levels, the probabilities; adjustments: two flags, eight deltas
-unfoldable pub kinds : List ℕ
+unfoldable pub kinds : List Kind
 kinds =
-    1 ∷ 1 ∷ 1 ∷ 1 ∷ 127 ∷ 127 ∷ 127 ∷ 127 ∷ 63 ∷ 63 ∷ 63 ∷ 63 ∷ 0 ∷ 0 ∷ 0
-    ∷ 1 ∷ 1 ∷ 63 ∷ 63 ∷ 63 ∷ 63 ∷ 63 ∷ 63 ∷ 63 ∷ 63 ∷ []
+    replicate 4 Flag ++ (replicate 4 (UpTo 127) ++ (replicate 4 (UpTo 63) ++ (replicate 3 Any
+    ++ (replicate 2 Flag ++ (replicate 4 (UpTo 63) ++ (replicate 4 (UpTo 63) ++ []))))))
 
 -- no fault in the bytes of a record; no probability is one
 abbrev pub faultless : List ℕ → Bool
 faultless bs = agree allows kinds bs
 
+-- whether bytes are taken, or by which refusal not
+abbrev pub Verdict : Type 0
+Verdict = Result (Unit {0}) BlockRefusal
+
 -- the number of each refusal; 0 for none
 abbrev pub refusal_of : Verdict → ℕ
-refusal_of Taken = 0
-refusal_of OtherSize = 13
-refusal_of OtherHeading = 14
-refusal_of Fault = 15
+refusal_of (Ok e) = 0
+refusal_of (Err OtherSize) = 13
+refusal_of (Err OtherHeading) = 14
+refusal_of (Err Fault) = 15
 
 -- on bytes that are given as a block, in order of checking
 unfoldable pub block_verdict : List ℕ → Verdict
-block_verdict b = pick (eqb (length b) 1148) (pick (agree eqb heading b) (pick (faultless (drop 22 b)) Taken Fault) OtherHeading) OtherSize
+block_verdict b =
+    pick (eqb (length b) 1148)
+    (pick (agree eqb heading b) (pick (faultless (drop 22 b)) (Ok tt) (Err Fault)) (Err OtherHeading))
+    (Err OtherSize)
 
 -- on the bytes s of a record that are to be written into the buffer b
 unfoldable pub write_verdict : List ℕ → List ℕ → Verdict
-write_verdict s b = pick (eqb (length b) 1148) (pick (faultless s) Taken Fault) OtherSize
+write_verdict s b = pick (eqb (length b) 1148) (pick (faultless s) (Ok tt) (Err Fault)) (Err OtherSize)
 
 -- where a flat record is lent or given too: 13 also where it has another size than 1,126 bytes
 abbrev pub flat : List ℕ → Verdict → Verdict
-flat s v = pick (eqb (length s) 1126) v OtherSize
+flat s v = pick (eqb (length s) 1126) v (Err OtherSize)
 
 -- each refusal of a block exactly when, and when there is none
 pub record Causes (b : List ℕ) : Type 0 where

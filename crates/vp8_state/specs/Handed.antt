@@ -1,24 +1,20 @@
 -- What is done with a block: a record read from it or written into it, as a record or as its 1,126 bytes, and one call over it. Each is a
 -- function of what is given, on every input: the answer, and the buffer that is left.
-use Rattle.std.specs.Prelude.{ℕ, ◌≡◌, List, [], ◌∷◌, ltb, drop}
+use Rattle.std.specs.Prelude.{ℕ, ◌≡◌, List, [], ◌∷◌, Result, Ok, Err, ltb, drop}
 use Rattle.vp8_records.specs.declared.Parser.{Parser}
 use Rattle.vp8_records.specs.Mode.{mode_of}
 use Rattle.vp8_records.specs.Outcome.{number_of}
 use Rattle.vp8_records.specs.Start.{fresh}
 use Rattle.rfc6386.specs.Decoder.{pick}
 use Rattle.rfc6386.specs.Call.{Asked, called}
-use Rattle.vp8_state.specs.declared.Verdict.{Verdict}
-use Rattle.vp8_state.specs.declared.Verdict.TheVariants.{Taken, OtherSize, OtherHeading, Fault}
-use Rattle.vp8_state.specs.declared.ReadAnswer.{ReadAnswer}
-use Rattle.vp8_state.specs.Block.{record_bytes, block, refusal_of, block_verdict, write_verdict, flat}
+use Rattle.vp8_state.specs.declared.BlockRefusal.{BlockRefusal}
+use Rattle.vp8_state.specs.Block.{record_bytes, block, Verdict, refusal_of, block_verdict, write_verdict, flat}
 use Rattle.vp8_state.specs.Laid.{parser_of}
 
 -- the one where nothing is refused, the other where something is
 abbrev pub taken : {A : Type 0} → Verdict → A → A → A
-taken Taken x y = x
-taken OtherSize x y = y
-taken OtherHeading x y = y
-taken Fault x y = y
+taken (Ok e) x y = x
+taken (Err r) x y = y
 
 -- an answer, and what a lent buffer holds afterwards
 pub record Left (A : Type 0) : Type 0 where
@@ -32,9 +28,22 @@ left a b = record { answer = a; buffer = b }
 abbrev pub record_of : List ℕ → Parser
 record_of b = parser_of (drop 22 b)
 
+-- whether a block is taken, and a record
+pub record ReadAnswer : Type 0 where
+  pub verdict : Verdict
+  pub parser : Parser
+
 -- read: a block that is refused gives the fresh record
 unfoldable pub read_block : List ℕ → ReadAnswer
 read_block b = record { verdict = block_verdict b; parser = taken (block_verdict b) (record_of b) fresh }
+
+-- in code: the record, or else the refusal alone
+abbrev pub or_refused : Verdict → Parser → Result Parser BlockRefusal
+or_refused (Ok e) p = Ok p
+or_refused (Err r) p = Err r
+
+abbrev pub answered : ReadAnswer → Result Parser BlockRefusal
+answered a = or_refused a.verdict a.parser
 
 -- write into a lent buffer
 unfoldable pub write_block : Parser → List ℕ → Left Verdict
@@ -80,7 +89,7 @@ pub data Exported : List ℕ → List Offer → List ℕ → List ℕ → Type 0
   stop : {b : List ℕ} → Exported b [] [] b
   own : {b c d : List ℕ} {x : Offer} {xs : List Offer} {r : ℕ} {rs : List ℕ} → left r c ≡ state_parse b x → Exported c xs rs d
       → Exported b (x ∷ xs) (r ∷ rs) d
-  other : {b c d : List ℕ} (o : List ℕ) {x : Offer} {xs : List Offer} {r : ℕ} {rs : List ℕ} → (block_verdict o ≡ Taken → ⊥)
+  other : {b c d : List ℕ} (o : List ℕ) {x : Offer} {xs : List Offer} {r : ℕ} {rs : List ℕ} → (block_verdict o ≡ Ok tt → ⊥)
       → left r c ≡ state_parse o x → Exported b xs rs d → Exported b (x ∷ xs) (r ∷ rs) d
 
 -- a parse that is refused by 13 to 15 is no call: the calls among these, and their answers

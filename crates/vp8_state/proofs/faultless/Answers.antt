@@ -1,22 +1,24 @@
--- The tests from i on give what all of them give: `Agree`.
-use mathlib.Core.Path.{sym, ◌∙◌}
-use native.Mathlib.Omega.{arith}
+-- The tests that are left give what all of them give: `Agree`.
+use mathlib.Core.Logic.{inl, inr}
+use mathlib.Core.Path.{ap, sym, ◌∙◌}
+use Rattle.std.proofs.Common.{⊎_elim}
 use Rattle.vp8_state.specs.Block.{kinds}
-use Rattle.vp8_state.proofs.Agree.{turn, fails, ends}
+use Rattle.vp8_state.proofs.Agree.{begin, turn, fails, ends}
 use Rattle.vp8_state.proofs.faultless.Goals as goal
 
-pub returns-then-not-allows : goal.returns-then-not-allows
+pub loop-kind-init : goal.loop-kind-init
 unfolding kinds
-returns-then-not-allows c = let h = c.requires in
-    fails (omega (arith, c.loop-i-test.true)) (omega arith) c.loop-i.invariant
-    (sym c.allows.ensures ∙ c.if-not-allows.true)
+loop-kind-init c = let is = c.into_iter-kind-iterator.ensures.into_iter_gives in
+    let zip = c.zip-kind-items.ensures in
+    begin (ap (λ z. z.a.rest.now) is ∙ ap (λ z. z.rest.now) zip.first ∙ c.iter.ensures.rest) (ap (λ z. z.b.rest.now) is ∙ zip.second.0) c.requires
 
-pub loop-i-preserved : goal.loop-i-preserved
-unfolding kinds
-loop-i-preserved c = let h = c.requires in
-    turn (omega (arith, c.loop-i-test.true)) (omega arith) c.loop-i.invariant
-    (sym c.allows.ensures ∙ c.if-not-allows.false) (omega arith)
+pub returns-then-not-allows : goal.returns-then-not-allows
+returns-then-not-allows c = let s = c.in-Some.ensures.steps in
+    fails c.loop-kind.invariant s.0 s.1 (sym c.allows.ensures ∙ c.if-not-allows.true)
+
+pub loop-kind-preserved : goal.loop-kind-preserved
+loop-kind-preserved c = let s = c.in-Some.ensures.steps in
+    turn c.loop-kind.invariant s.0 s.1 (sym c.allows.ensures ∙ c.if-not-allows.false)
 
 pub returns : goal.returns
-unfolding kinds
-returns c = ends (omega (arith, c.loop-i-test.false)) c.loop-i.invariant
+returns c = ⊎_elim (λ h. ends (inl h.1.0) c.loop-kind.invariant) (λ h. ends (inr h.1.0) c.loop-kind.invariant) c.in-None.ensures.steps

@@ -14,8 +14,8 @@ unfolding heading
 returns c =
     let sized : length c.args.coeffs.v ≡ 1056 = search rules in
     let front_sized : length c.args.first ≡ 25 = search rules in
-    let modes = c.modes-modes in
-    let motion = c.motion-motion in
+    let modes = c.modes in
+    let motion = c.motion in
     let v : length motion.result ≡ 38 = search rules in
     let w : length modes.result ≡ 7 = search rules in
     let u = c.args.coeffs.v in

@@ -1,9 +1,0 @@
-use Prim.Native.Nat.{◌-◌}
-use Rattle.vp8_records.proofs.Copy.{Copied}
-use Rattle.vp8_state.proofs.coeffs_at.Given as goal
-
-abbrev pub invariant-loop-l : goal.invariant-loop-l
-invariant-loop-l l = Copied 1056 l.at l.bytes l.v l.l
-
-abbrev pub decreases-loop-l : goal.decreases-loop-l
-decreases-loop-l l = 1056 - l.l
