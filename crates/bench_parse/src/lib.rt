@@ -126,10 +126,9 @@ fn kept(sum: u64, p: Parser, place: u32) -> u64
 fn number(answer: Parsed) -> u64
     ensures { result ≡ sum_of answer }
 {
-    let outcome = answer.outcome;
+    let first = u64::from(vp8_records::number(answer.outcome));
     let h = answer.header;
-    let parser = answer.parser;
-    kept(header(outcome.number() as u64, h), parser, h.header_size)
+    kept(header(first, h), answer.parser, h.header_size)
 }
 
 // The sum over a fresh parser's answer to the frame.
@@ -138,6 +137,6 @@ pub extern "C" fn bench_parse_frame(bytes: &[u8], mode: u32) -> u64
     ensures { result ≡ sum_of (call (mode_of mode) fresh bytes.now) }
 {
     let fresh = Parser::new();
-    let whose = Mode::of(mode);
+    let whose = Mode::from(mode);
     number(vp8_parser::parse_in(fresh, bytes, whose))
 }

@@ -9,9 +9,8 @@ use lib.Dec.{ltb}
 use lib.ListN.{length}
 use Rattle.vp8_records.specs.declared.Parser.{Parser}
 use Rattle.vp8_records.specs.declared.Parsed.{Parsed}
-use Rattle.vp8_records.specs.declared.Outcome.{Outcome}
-use Rattle.vp8_records.specs.declared.Outcome.TheVariants.{Accepted, ChunkTooShort, InvalidStartCode, InvalidPartitionSize, EmptyArea, EndOfHeader, FrameTooLong}
-use Rattle.vp8_records.specs.Outcome.{number_of}
+use Rattle.vp8_records.specs.declared.Refusal.TheVariants.{ChunkTooShort, InvalidStartCode, InvalidPartitionSize, EmptyArea, EndOfHeader, FrameTooLong}
+use Rattle.vp8_records.specs.Outcome.{Outcome, number_of}
 use Rattle.vp8_records.specs.Start.{fresh}
 use Rattle.rfc6386.specs.Decoder.{pick}
 use Rattle.rfc6386.specs.Runs.{or}
@@ -86,13 +85,13 @@ no_call (Err OtherHeading) h = refl
 no_call (Err Fault) h = refl
 
 a_call : (o : Outcome) → ltb (number_of o) 13 ≡ true
-a_call Accepted = refl
-a_call ChunkTooShort = refl
-a_call (InvalidStartCode code) = refl
-a_call (InvalidPartitionSize end n) = refl
-a_call EmptyArea = refl
-a_call EndOfHeader = refl
-a_call (FrameTooLong n) = refl
+a_call (Ok u) = refl
+a_call (Err ChunkTooShort) = refl
+a_call (Err (InvalidStartCode code)) = refl
+a_call (Err (InvalidPartitionSize end n)) = refl
+a_call (Err EmptyArea) = refl
+a_call (Err EndOfHeader) = refl
+a_call (Err (FrameTooLong n)) = refl
 
 -- the block that exported calls leave, and the answers of those that are calls
 pub exported_is : (p : Parser) {b d : List ℕ} {xs : List Offer} {rs : List ℕ} → Sound p → b ≡ block p → Exported b xs rs d

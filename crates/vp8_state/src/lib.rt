@@ -12,6 +12,7 @@ ghost use Rattle.vp8_state.specs.Block.{heading, allows, faultless, refusal_of, 
 ghost use Rattle.vp8_state.specs.Laid.{part, segmentation_of, adjustments_of, modes_of, parser_of};
 ghost use Rattle.vp8_state.specs.Handed.{left, answered, read_block, write_block, state_read, state_write, state_parse};
 
+use text::Text;
 use vp8_records::{CoeffProbs, MbLfAdjustments, Mode, ModeProbs, MvProbs, Parser, Segmentation};
 
 // The bytes of a block.
@@ -151,10 +152,10 @@ fn put(block: &mut [u8], at: usize, bytes: &[u8])
 fn front(s: Segmentation, a: MbLfAdjustments) -> [u8; 25]
     ensures { result ≡ segmentation_bytes s ++ adjustment_bytes a }
 {
-    let mut out = [0u8; 25];
-    let to = vp8_flat::put_segmentation(&mut out, 0, s);
-    vp8_flat::put_adjustments(&mut out, to, a);
-    out
+    let mut out = Text::<25>::new();
+    vp8_flat::put_segmentation(&mut out, s);
+    vp8_flat::put_adjustments(&mut out, a);
+    out.into_buffer()
 }
 
 // Heading and sections, one after another.
@@ -325,10 +326,10 @@ pub fn vp8_state_parse(mode: u32, block: &mut [u8], frame: &[u8]) -> u32
 {
     match read_block(block) {
         Ok(parser) => {
-            let parsed = vp8_parser::parse_in(parser, frame, Mode::of(mode));
+            let parsed = vp8_parser::parse_in(parser, frame, Mode::from(mode));
             // A call leaves no fault, so the block takes its record.
             let _ = write_block(parsed.parser, block);
-            parsed.outcome.number()
+            vp8_records::number(parsed.outcome)
         }
         Err(refusal) => refusal.number(),
     }

@@ -20,9 +20,7 @@ returns c =
     let frames : length a.ref_frame_delta ≡ 4 = search rules in
     let modes : length a.mb_mode_delta ≡ 4 = search rules in
     simp (length-append, length-map) (omega arith) in
-    let first = c.put_segmentation-to in
-    let both = c.put_adjustments in
-    let size = sizes in
-    full _ _ _ _ (sym size) (both.auto.out ∙ first.auto.out ∙ sym size)
-    (both.ensures ∙ ap (λ (t : Text). puts t (adjustment_bytes c.args.a)) first.ensures
-    ∙ sym (puts_append _ (segmentation_bytes c.args.s) _))
+    c.into_buffer.ensures
+    ∙ full _ _ 25 _ c.new-out.ensures
+    (c.put_adjustments.ensures ∙ ap (λ (t : Text). puts t (adjustment_bytes c.args.a)) c.put_segmentation.ensures
+    ∙ sym (puts_append _ (segmentation_bytes c.args.s) _)) sizes
