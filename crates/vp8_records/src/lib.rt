@@ -442,6 +442,8 @@ impl Parser {
     pub const TOO_LONG: usize = 268435456;
 
     // A parser that has seen no frame.
+    // Never inlined: the optimizer would write its tables out byte by byte where it has one caller.
+    #[inline(never)]
     pub fn new() -> Self
         ensures { result ≡ fresh }
     {
