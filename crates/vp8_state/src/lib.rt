@@ -162,21 +162,16 @@ fn front(s: Segmentation, a: MbLfAdjustments) -> [u8; 25]
 }
 
 // Heading and sections, one after another.
-fn put_sections(
-    block: &mut [u8],
-    first: [u8; 25],
-    coeffs: CoeffProbs,
-    mv: MvProbs,
-    probs: ModeProbs,
-)
+fn put_sections(block: &mut [u8], first: [u8; 25], parser: Parser)
     requires { length block.old ≡ 1148 }
-    ensures { block.new ≡ heading ++ first ++ flat_coeffs coeffs ++ flat_mv mv ++ flat_modes probs }
+    ensures { block.new
+        ≡ heading ++ first ++ flat_coeffs parser.coeff_prob ++ flat_mv parser.mv_prob ++ flat_modes parser.mode_probs }
 {
     put(block, 0, &HEADING);
     put(block, 22, &first);
-    put(block, 47, &coeffs.v);
-    put(block, 1103, &vp8_flat::motion(mv));
-    put(block, 1141, &vp8_flat::modes(probs));
+    put(block, 47, &parser.coeff_prob.v);
+    put(block, 1103, &vp8_flat::motion(parser.mv_prob));
+    put(block, 1141, &vp8_flat::modes(parser.mode_probs));
 }
 
 // Writes the record into a block of the caller's; where it is refused, the block stays as it is.
@@ -190,13 +185,7 @@ pub fn write_block(parser: Parser, block: &mut [u8]) -> Result<(), BlockRefusal>
     if !faultless(&first) {
         return Err(BlockRefusal::Fault);
     }
-    put_sections(
-        block,
-        first,
-        parser.coeff_prob,
-        parser.mv_prob,
-        parser.mode_probs,
-    );
+    put_sections(block, first, parser);
     Ok(())
 }
 
