@@ -458,7 +458,8 @@ impl Parser {
     // A frame of this many bytes or more is refused.
     pub const TOO_LONG: usize = 1 << 28;
 
-    // A parser that has seen no frame.
+    // A parser that has seen no frame. Never inlined: the optimizer would write its tables out byte by byte where it has one caller.
+    #[inline(never)]
     #[tactic(auto, unfolding(crate::specs::Start::fresh))]
     pub fn new() -> Self
         ensures { result ≡ fresh }

@@ -22,7 +22,7 @@ use Rattle.vp8_state.specs.Laid.{parser_of}
 use Rattle.vp8_state.specs.Handed.{taken, left, write_block, state_read, state_write}
 use Rattle.vp8_state.proofs.Pastes.{begin, more, whole}
 use Rattle.vp8_state.proofs.Laid.{Bytes, bytes_back}
-use Rattle.vp8_state.proofs.Blocks.{taken_bytes}
+use Rattle.vp8_state.proofs.Blocks.{is_block, taken_bytes}
 
 -- a table looks at no more bytes than it has numbers
 agree_front : {K : Type 0} (t : K → ℕ → Bool) (ks : List K) (xs ys : List ℕ) → length ks ≤ length xs → agree t ks (xs ++ ys) ≡ agree t ks xs
@@ -103,6 +103,10 @@ module _ (b o : List ℕ) where
     unfolding state_read
     not_read h = rw (eq-eqb (length o) 1126 n, ← h)
 
-    pub was_read : Bytes b → block_verdict b ≡ Ok tt → {c : List ℕ} → c ≡ drop 22 b → left 0 c ≡ state_read b o
+    pub was_read : Bytes b → block_verdict b ≡ Ok tt → {c : List ℕ} → c ≡ paste o 0 (drop 22 b) (length (drop 22 b))
+        → left 0 c ≡ state_read b o
     unfolding state_read
-    was_read bytes h {c} e = rw (eq-eqb (length o) 1126 n, h) (ap (left 0) (e ∙ sym (taken_bytes b bytes h)))
+    was_read bytes h {c} p =
+        let t = is_block b h in
+        let e : c ≡ drop 22 b = whole (more [] (drop 22 b) 0 (begin n) refl (omega (arith, t.rest)) p) t.rest in
+        rw (eq-eqb (length o) 1126 n, h) (ap (left 0) (e ∙ sym (taken_bytes b bytes h)))

@@ -141,11 +141,15 @@ fn block_verdict(block: &[u8]) -> Result<(), BlockRefusal>
     Ok(())
 }
 
+// Stores bytes from a place on: by a loop, which becomes a call of `memcpy`, since `copy_from_slice` between two of the caller's slices
+// would ask a host for `memmove` too.
 fn put(block: &mut [u8], at: usize, bytes: &[u8])
     requires { at + length bytes.now ≤ length block.old }
     ensures { block.new ≡ paste block.old at bytes.now (length bytes.now) }
 {
-    block[at..at + bytes.len()].copy_from_slice(bytes);
+    for (i, b) in bytes.iter().enumerate() {
+        block[at + i] = *b;
+    }
 }
 
 // The sections in which a fault may be.
@@ -159,21 +163,16 @@ fn front(s: Segmentation, a: MbLfAdjustments) -> [u8; 25]
 }
 
 // Heading and sections, one after another.
-fn put_sections(
-    block: &mut [u8],
-    first: [u8; 25],
-    coeffs: CoeffProbs,
-    mv: MvProbs,
-    probs: ModeProbs,
-)
+fn put_sections(block: &mut [u8], first: [u8; 25], parser: Parser)
     requires { length block.old ≡ 1148 }
-    ensures { block.new ≡ heading ++ first ++ flat_coeffs coeffs ++ flat_mv mv ++ flat_modes probs }
+    ensures { block.new
+        ≡ heading ++ first ++ flat_coeffs parser.coeff_prob ++ flat_mv parser.mv_prob ++ flat_modes parser.mode_probs }
 {
     put(block, 0, &HEADING);
     put(block, 22, &first);
-    put(block, 47, &coeffs.v);
-    put(block, 1103, &vp8_flat::motion(mv));
-    put(block, 1141, &vp8_flat::modes(probs));
+    put(block, 47, &parser.coeff_prob.v);
+    put(block, 1103, &vp8_flat::motion(parser.mv_prob));
+    put(block, 1141, &vp8_flat::modes(parser.mode_probs));
 }
 
 // Writes the record into a block of the caller's; where it is refused, the block stays as it is.
@@ -187,13 +186,7 @@ pub fn write_block(parser: Parser, block: &mut [u8]) -> Result<(), BlockRefusal>
     if !faultless(&first) {
         return Err(BlockRefusal::Fault);
     }
-    put_sections(
-        block,
-        first,
-        parser.coeff_prob,
-        parser.mv_prob,
-        parser.mode_probs,
-    );
+    put_sections(block, first, parser);
     Ok(())
 }
 
@@ -286,7 +279,7 @@ fn read_record(block: &[u8], bytes: &mut [u8]) -> Result<(), BlockRefusal>
         return Err(BlockRefusal::OtherSize);
     }
     block_verdict(block)?;
-    bytes.copy_from_slice(&block[22..]);
+    put(bytes, 0, &block[22..]);
     Ok(())
 }
 

@@ -12,13 +12,13 @@ use Rattle.vp8_state.proofs.put_sections.Goals as goal
 pub returns : goal.returns
 unfolding heading
 returns c =
-    let sized : length c.args.coeffs.v ≡ 1056 = search rules in
+    let sized : length c.args.parser.coeff_prob.v ≡ 1056 = search rules in
     let front_sized : length c.args.first ≡ 25 = search rules in
     let modes = c.modes in
     let motion = c.motion in
     let v : length motion.result ≡ 38 = search rules in
     let w : length modes.result ≡ 7 = search rules in
-    let u = c.args.coeffs.v in
+    let u = c.args.parser.coeff_prob.v in
     c.put-5.ensures
     ∙ ap (λ (l : List ℕ). paste l 1141 modes.result (length modes.result))
     (c.put-4.ensures

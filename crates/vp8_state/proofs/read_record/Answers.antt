@@ -1,5 +1,9 @@
--- The tests in their order, then one copy: `Stores`.
-use mathlib.Core.Path.{sym, ◌∙◌}
+-- The tests in their order, then one store: `Stores`.
+use Prim.Native.Nat.{ℕ}
+use mathlib.Core.List.{List}
+use lib.ListN.{length}
+use lib.Seq.{paste}
+use mathlib.Core.Path.{ap, sym, ◌∙◌}
 use borrow.Author.Rules.{part_to_end}
 use Rattle.std.proofs.lemmas.Result.{err_from_is_err_and}
 use Rattle.vp8_state.proofs.Stores.{other_buffer, not_read, was_read}
@@ -15,4 +19,4 @@ returns-in_err-block_verdict c = let p = err_from_is_err_and c.from_residual.res
 pub returns : goal.returns
 returns c = let b = c.args.block.now in
     was_read b c.args.bytes.now c.if-bytes-ne-RECORD.false c.type_inv.block (sym c.in_ok-block_verdict.ensures.verdict)
-    (c.copy_from_slice.ensures.after ∙ part_to_end b 22)
+    (c.put.ensures ∙ ap (λ (l : List ℕ). paste c.args.bytes.now 0 l (length l)) (part_to_end b 22))
