@@ -2,7 +2,7 @@
 // Each writer puts its bytes after those that are there, as far as the buffer goes. No public function has a premise.
 #![tactic(auto)]
 
-ghost use Rattle.std.specs.Prelude.{◌≡◌, ◌<◌, take, replicate};
+ghost use Rattle.std.specs.Prelude.{◌≡◌, ◌<◌, ℕ, List, length, min, set, take, replicate};
 ghost use Rattle.text.specs.Text.{text, put, puts};
 ghost use Rattle.text.specs.Digits.{glyph as Digits·glyph, hex_of, decimal_of, signed_of};
 ghost use Rattle.text.specs.Template.{filled};
@@ -10,22 +10,71 @@ ghost use Rattle.text.specs.Lines.{numbered};
 
 use std::marker::Model;
 
-// A text of at most N bytes: the first `count` bytes of the buffer.
+// Where a text stands: bytes of a fixed number, each of which can be put.
+pub trait Buffer {
+    ghost bytes: { Self → List ℕ };
+
+    fn size(&self) -> usize
+        ensures { result ≡ length (bytes self.now) };
+
+    fn as_slice(&self) -> &[u8]
+        ensures { result.now ≡ bytes self.now };
+
+    fn put(&mut self, at: usize, b: u8)
+        requires { at < length (bytes self.old) }
+        ensures { bytes self.new ≡ set (bytes self.old) at b };
+}
+
+// The text's own.
+impl<const N: usize> Buffer for [u8; N] {
+    ghost bytes = { λ xs. xs };
+
+    fn size(&self) -> usize {
+        N
+    }
+
+    fn as_slice(&self) -> &[u8] {
+        self
+    }
+
+    fn put(&mut self, at: usize, b: u8) {
+        self[at] = b;
+    }
+}
+
+// A lent one.
+impl<'a> Buffer for &'a mut [u8] {
+    ghost bytes = { λ r. r.now };
+
+    fn size(&self) -> usize {
+        self.len()
+    }
+
+    fn as_slice(&self) -> &[u8] {
+        &**self
+    }
+
+    fn put(&mut self, at: usize, b: u8) {
+        (**self)[at] = b;
+    }
+}
+
+// The first `count` bytes of the buffer.
 #[derive(Drop)]
-pub struct Text<const N: usize> {
-    buffer: [u8; N],
+pub struct Text<B: Buffer> {
+    buffer: B,
     count: usize,
 }
 
-impl<const N: usize> Model for Text<N> {
-    ghost use Rattle.std.specs.Prelude.{◌≤◌};
+impl<B: Buffer> Model for Text<B> {
+    ghost use Rattle.std.specs.Prelude.{◌≤◌, length};
     ghost use Rattle.text.specs.Text.{Text, text};
 
     ghost Value = { Text };
 
-    ghost view = { λ t. text t.buffer t.count };
+    ghost view = { λ t. text (B.bytes t.buffer) t.count };
 
-    ghost invariant = { λ t. t.count ≤ N };
+    ghost invariant = { λ t. t.count ≤ length (B.bytes t.buffer) };
 }
 
 // The first n bytes of a buffer, where they stand; all of it where n is more.
@@ -42,22 +91,36 @@ fn glyph(d: u8) -> u8
     if d < 10 { b'0' + d } else { b'a' + (d - 10) }
 }
 
-impl<const N: usize> Text<N> {
-    // Nothing yet.
+impl<const N: usize> Text<[u8; N]> {
+    // Nothing yet, in zeros.
     pub fn new() -> Self
         ensures { result ≡ text (replicate N 0) 0 }
     {
-        Text {
-            buffer: [0; N],
-            count: 0,
-        }
+        Text::over([0; N])
+    }
+}
+
+impl<B: Buffer> Text<B> {
+    // Nothing yet, over what is in the buffer.
+    pub fn over(buffer: B) -> Self
+        ensures { result ≡ text (B.bytes buffer) 0 }
+    {
+        Text { buffer, count: 0 }
+    }
+
+    // Begins with the first `count` bytes of the buffer; with all of it where count is more.
+    pub fn after(buffer: B, count: usize) -> Self
+        ensures { result ≡ text (B.bytes buffer) (min count (length (B.bytes buffer))) }
+    {
+        let count = count.min(buffer.size());
+        Text { buffer, count }
     }
 
     // The text itself.
     pub fn as_bytes(&self) -> &[u8]
         ensures { result.now ≡ take self.now.count self.now.buffer }
     {
-        part(&self.buffer, self.count)
+        part(self.buffer.as_slice(), self.count)
     }
 
     // Begins again, over the old text.
@@ -68,8 +131,8 @@ impl<const N: usize> Text<N> {
     }
 
     // The whole buffer, of which the text is the start.
-    pub fn into_buffer(self) -> [u8; N]
-        ensures { result ≡ self.entry.buffer }
+    pub fn into_buffer(self) -> B
+        ensures { B.bytes result ≡ self.buffer }
     {
         self.buffer
     }
@@ -78,8 +141,8 @@ impl<const N: usize> Text<N> {
     pub fn byte(&mut self, b: u8)
         ensures { self.new ≡ put self.old b }
     {
-        if self.count < N {
-            self.buffer[self.count] = b;
+        if self.count < self.buffer.size() {
+            self.buffer.put(self.count, b);
             self.count += 1;
         }
     }

@@ -11,7 +11,7 @@ ghost use Rattle.text.specs.Text.{puts};
 ghost use Rattle.vp8_records.specs.Layout.{flat_coeffs, flat_mv};
 ghost use Rattle.vp8_flat.specs.Bytes.{bit_of, flat_modes, segmentation_bytes, adjustment_bytes, kept_bytes};
 
-use text::Text;
+use text::{Buffer, Text};
 use vp8_records::{CoeffProbs, MbLfAdjustments, ModeProbs, MvProbs, Parser, Segmentation};
 
 // A flag as 0 or 1.
@@ -28,7 +28,7 @@ pub fn byte_of(x: i8) -> u8
     x.cast_unsigned()
 }
 
-fn put_signed<const N: usize>(out: &mut Text<N>, v: [i8; 4])
+fn put_signed<B: Buffer>(out: &mut Text<B>, v: [i8; 4])
     ensures { out.new ≡ puts out.old (map (of_z w8) v) }
 {
     for x in v {
@@ -37,7 +37,7 @@ fn put_signed<const N: usize>(out: &mut Text<N>, v: [i8; 4])
 }
 
 // The 38 motion probabilities (section 17.2).
-pub fn put_motion<const N: usize>(out: &mut Text<N>, motion: MvProbs)
+pub fn put_motion<B: Buffer>(out: &mut Text<B>, motion: MvProbs)
     ensures { out.new ≡ puts out.old (flat_mv motion) }
 {
     for context in motion.v {
@@ -47,7 +47,7 @@ pub fn put_motion<const N: usize>(out: &mut Text<N>, motion: MvProbs)
 
 // The seven mode probabilities (section 16.2).
 #[tactic(auto, using(text::proofs::Puts::writes))]
-pub fn put_modes<const N: usize>(out: &mut Text<N>, modes: ModeProbs)
+pub fn put_modes<B: Buffer>(out: &mut Text<B>, modes: ModeProbs)
     ensures { out.new ≡ puts out.old (flat_modes modes) }
 {
     out.bytes(&modes.intra_16x16_prob);
@@ -56,7 +56,7 @@ pub fn put_modes<const N: usize>(out: &mut Text<N>, modes: ModeProbs)
 
 // Segmentation (section 9.3).
 #[tactic(auto, using(text::proofs::Puts::writes))]
-pub fn put_segmentation<const N: usize>(out: &mut Text<N>, s: Segmentation)
+pub fn put_segmentation<B: Buffer>(out: &mut Text<B>, s: Segmentation)
     ensures { out.new ≡ puts out.old (segmentation_bytes s) }
 {
     out.byte(bit(s.segmentation_enabled));
@@ -70,7 +70,7 @@ pub fn put_segmentation<const N: usize>(out: &mut Text<N>, s: Segmentation)
 
 // The filter's adjustments (section 9.4).
 #[tactic(auto, using(text::proofs::Puts::writes))]
-pub fn put_adjustments<const N: usize>(out: &mut Text<N>, a: MbLfAdjustments)
+pub fn put_adjustments<B: Buffer>(out: &mut Text<B>, a: MbLfAdjustments)
     ensures { out.new ≡ puts out.old (adjustment_bytes a) }
 {
     out.byte(bit(a.loop_filter_adj_enable));
@@ -80,7 +80,7 @@ pub fn put_adjustments<const N: usize>(out: &mut Text<N>, a: MbLfAdjustments)
 }
 
 // All kept numbers.
-pub fn put_parser<const N: usize>(out: &mut Text<N>, parser: Parser)
+pub fn put_parser<B: Buffer>(out: &mut Text<B>, parser: Parser)
     ensures { out.new ≡ puts out.old (kept_bytes parser) }
 {
     put_segmentation(out, parser.segmentation);

@@ -5,7 +5,7 @@ ghost use Rattle.text.specs.Digits.{hex_of};
 ghost use Rattle.vp8_show.specs.Dumped.{delta_text, quant_text, probs_text, header_text, answer_text, dumped, dumped_look};
 
 use crate::{Words, looked, named, refused};
-use text::Text;
+use text::{Buffer, Text};
 use vp8_flat::header::{flags, shape, tail};
 use vp8_records::{Header, Look, Parsed, PeekRefusal, QuantIndices};
 
@@ -18,7 +18,7 @@ const WORDS: Words<'static> = Words {
 };
 
 // A delta with its sign, after a comma.
-fn delta<const N: usize>(out: &mut Text<N>, z: i8)
+fn delta<B: Buffer>(out: &mut Text<B>, z: i8)
     ensures { out.new ≡ puts out.old (delta_text z) }
 {
     out.byte(b',');
@@ -26,7 +26,7 @@ fn delta<const N: usize>(out: &mut Text<N>, z: i8)
 }
 
 // The quantizer index and the five deltas.
-fn quantizer<const N: usize>(out: &mut Text<N>, q: QuantIndices)
+fn quantizer<B: Buffer>(out: &mut Text<B>, q: QuantIndices)
     ensures { out.new ≡ puts out.old (quant_text q) }
 {
     named(out, b" q=", u64::from(q.y_ac_qi));
@@ -38,14 +38,14 @@ fn quantizer<const N: usize>(out: &mut Text<N>, q: QuantIndices)
 }
 
 // A name, then bytes as hexadecimal digits.
-fn named_bytes<const N: usize>(out: &mut Text<N>, name: &[u8], bytes: &[u8])
+fn named_bytes<B: Buffer>(out: &mut Text<B>, name: &[u8], bytes: &[u8])
     ensures { out.new ≡ puts out.old (name.now ++ hex_of bytes.now) }
 {
     out.bytes(name);
     out.hex(bytes);
 }
 
-fn probabilities<const N: usize>(out: &mut Text<N>, h: Header)
+fn probabilities<B: Buffer>(out: &mut Text<B>, h: Header)
     ensures { out.new ≡ puts out.old (probs_text h) }
 {
     named_bytes(out, b" modes=", &vp8_flat::modes(h.mode_probs));
@@ -55,7 +55,7 @@ fn probabilities<const N: usize>(out: &mut Text<N>, h: Header)
 
 // In this order: the tag, the sizes, the filter and the partitions; the quantizer; what the frame refreshes and copies, and its single
 // probabilities; the others; the decoder's snapshot, and what follows from the whole header.
-fn header<const N: usize>(out: &mut Text<N>, h: Header)
+fn header<B: Buffer>(out: &mut Text<B>, h: Header)
     ensures { out.new ≡ puts out.old (header_text h) }
 {
     out.bytes(b"ok");
@@ -77,7 +77,7 @@ fn header<const N: usize>(out: &mut Text<N>, h: Header)
 }
 
 #[tactic(auto, using(text::proofs::Puts::writes), unfolding(crate::specs::Dumped::answer_text))]
-fn answer<const N: usize>(out: &mut Text<N>, parsed: Parsed)
+fn answer<B: Buffer>(out: &mut Text<B>, parsed: Parsed)
     ensures { out.new ≡ puts out.old (answer_text parsed) }
 {
     match parsed.outcome {
@@ -88,7 +88,7 @@ fn answer<const N: usize>(out: &mut Text<N>, parsed: Parsed)
 
 // The line of an answer, without its end; under 6,000 bytes.
 #[tactic(auto, using(text::proofs::Puts::writes), unfolding(crate::specs::Dumped::dumped))]
-pub fn line<const N: usize>(out: &mut Text<N>, parsed: Parsed)
+pub fn line<B: Buffer>(out: &mut Text<B>, parsed: Parsed)
     ensures { out.new ≡ puts out.old (dumped parsed) }
 {
     answer(out, parsed);
@@ -96,7 +96,7 @@ pub fn line<const N: usize>(out: &mut Text<N>, parsed: Parsed)
 }
 
 // The line of a look, without its end; under 256 bytes.
-pub fn look<const N: usize>(out: &mut Text<N>, peeked: Result<Look, PeekRefusal>)
+pub fn look<B: Buffer>(out: &mut Text<B>, peeked: Result<Look, PeekRefusal>)
     ensures { out.new ≡ puts out.old (dumped_look peeked) }
 {
     out.bytes(b"peek ");

@@ -11,7 +11,7 @@ ghost use Rattle.text.specs.Text.{puts};
 ghost use Rattle.text.specs.Digits.{decimal_of};
 ghost use Rattle.vp8_show.specs.Refusal.{refusal_text, look_text};
 
-use text::Text;
+use text::{Buffer, Text};
 use vp8_records::{Look, PeekRefusal, Refusal};
 
 // The words of a refusal and the template of a look, as one of the programs has them.
@@ -29,7 +29,7 @@ struct Words<'a> {
 }
 
 // A word, then a number.
-fn named<const N: usize>(out: &mut Text<N>, word: &[u8], n: u64)
+fn named<B: Buffer>(out: &mut Text<B>, word: &[u8], n: u64)
     ensures { out.new ≡ puts out.old (word.now ++ decimal_of n) }
 {
     out.bytes(word);
@@ -38,7 +38,7 @@ fn named<const N: usize>(out: &mut Text<N>, word: &[u8], n: u64)
 
 // A refusal: its number, and what 2 and 3 carry.
 #[tactic(auto, using(text::proofs::Puts::writes), unfolding(crate::specs::Refusal::refusal_text))]
-fn refused<const N: usize>(out: &mut Text<N>, words: &Words, refusal: Refusal)
+fn refused<B: Buffer>(out: &mut Text<B>, words: &Words, refusal: Refusal)
     ensures { out.new ≡ puts out.old
         (refusal_text words.now.refused.now words.now.code.now words.now.end.now words.now.length.now (Err refusal)) }
 {
@@ -55,7 +55,7 @@ fn refused<const N: usize>(out: &mut Text<N>, words: &Words, refusal: Refusal)
 
 // What a look saw, or its refusal.
 #[tactic(auto, using(text::proofs::Puts::writes), unfolding(crate::specs::Refusal::look_text, crate::specs::Refusal::refusal_text))]
-fn looked<const N: usize>(out: &mut Text<N>, words: &Words, peeked: Result<Look, PeekRefusal>)
+fn looked<B: Buffer>(out: &mut Text<B>, words: &Words, peeked: Result<Look, PeekRefusal>)
     ensures { out.new ≡ puts out.old (look_text words.now.seen.now words.now.refused.now words.now.code.now peeked) }
 {
     match peeked {

@@ -6,7 +6,7 @@ ghost use Rattle.vp8_show.specs.Printed.{frame_line, partition_line, partition_l
 ghost use Rattle.vp8_show.specs.Printed.{printed, printed_at, printed_look};
 
 use crate::{Words, looked, named, refused};
-use text::Text;
+use text::{Buffer, Text};
 use vp8_flat::header::partitions;
 use vp8_records::{Header, Look, Parsed, PeekRefusal};
 
@@ -19,7 +19,7 @@ const WORDS: Words<'static> = Words {
 };
 
 // The first line: what the frame is.
-fn frame_line<const N: usize>(out: &mut Text<N>, h: Header)
+fn frame_line<B: Buffer>(out: &mut Text<B>, h: Header)
     ensures { out.new ≡ puts out.old (frame_line h) }
 {
     out.fill(
@@ -39,7 +39,7 @@ fn frame_line<const N: usize>(out: &mut Text<N>, h: Header)
 }
 
 // The line of a partition.
-fn partition_line<const N: usize>(out: &mut Text<N>, index: u64, start: u64, length: u64)
+fn partition_line<B: Buffer>(out: &mut Text<B>, index: u64, start: u64, length: u64)
     ensures { out.new ≡ puts out.old (partition_line index start length) }
 {
     named(out, b"part ", index);
@@ -49,7 +49,7 @@ fn partition_line<const N: usize>(out: &mut Text<N>, index: u64, start: u64, len
 }
 
 // Each partition begins where the one before it ends.
-fn partition_lines<const N: usize>(out: &mut Text<N>, sizes: &[u32], start: u64)
+fn partition_lines<B: Buffer>(out: &mut Text<B>, sizes: &[u32], start: u64)
     requires few { length sizes.now ≤ 8 }
     requires low { start ≤ 8589934592 }
     ensures { out.new ≡ puts out.old (partition_lines 0 start sizes.now) }
@@ -71,7 +71,7 @@ fn first_start(h: Header) -> u64
 }
 
 #[tactic(auto, using(text::proofs::Puts::writes), unfolding(crate::specs::Printed::accepted_text))]
-fn accepted<const N: usize>(out: &mut Text<N>, h: Header)
+fn accepted<B: Buffer>(out: &mut Text<B>, h: Header)
     ensures { out.new ≡ puts out.old (accepted_text h) }
 {
     frame_line(out, h);
@@ -81,7 +81,7 @@ fn accepted<const N: usize>(out: &mut Text<N>, h: Header)
 
 // The lines of an answer; under 1,024 bytes.
 #[tactic(auto, using(text::proofs::Puts::writes), unfolding(crate::specs::Printed::printed))]
-pub fn answer<const N: usize>(out: &mut Text<N>, parsed: Parsed)
+pub fn answer<B: Buffer>(out: &mut Text<B>, parsed: Parsed)
     ensures { out.new ≡ puts out.old (printed parsed) }
 {
     match parsed.outcome {
@@ -95,29 +95,29 @@ pub fn answer<const N: usize>(out: &mut Text<N>, parsed: Parsed)
 
 // The lines of an answer, on standard output.
 pub fn tell(rt: &impl Print, parsed: Parsed) {
-    let mut out = Text::<1024>::new();
+    let mut out = Text::<[u8; 1024]>::new();
     answer(&mut out, parsed);
     let _ = lines::show(rt, out.as_bytes());
 }
 
 // The lines of an answer, of which there are under 1,024 bytes, each with an index and a space in front; under 2,048 bytes.
-pub fn numbered<const N: usize>(out: &mut Text<N>, index: u64, parsed: Parsed)
+pub fn numbered<B: Buffer>(out: &mut Text<B>, index: u64, parsed: Parsed)
     ensures { out.new ≡ puts out.old (printed_at index parsed) }
 {
-    let mut lines = Text::<1024>::new();
+    let mut lines = Text::<[u8; 1024]>::new();
     answer(&mut lines, parsed);
     out.number_lines(index, lines.as_bytes());
 }
 
 // Those, on standard output.
 pub fn tell_numbered(rt: &impl Print, index: u64, parsed: Parsed) {
-    let mut out = Text::<2048>::new();
+    let mut out = Text::<[u8; 2048]>::new();
     numbered(&mut out, index, parsed);
     let _ = lines::show(rt, out.as_bytes());
 }
 
 // The line of a look; under 256 bytes.
-pub fn look<const N: usize>(out: &mut Text<N>, peeked: Result<Look, PeekRefusal>)
+pub fn look<B: Buffer>(out: &mut Text<B>, peeked: Result<Look, PeekRefusal>)
     ensures { out.new ≡ puts out.old (printed_look peeked) }
 {
     looked(out, &WORDS, peeked);

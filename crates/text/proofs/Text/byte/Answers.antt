@@ -1,16 +1,22 @@
 -- The store is `put` where there is room, and otherwise nothing is stored.
 use native.Mathlib.Omega.{arith}
 use mathlib.Core.Path.{ap, sym, ◌∙◌}
-use Rattle.text.specs.Text.{Text, put}
+use Prim.Native.Nat.{ℕ, ◌+◌}
+use mathlib.Core.List.{List}
+use Rattle.text.specs.Text.{Text, text, put}
 use Rattle.text.proofs.Puts.{put_room, put_full}
 use Rattle.text.proofs.Text.byte.Goals as goal
 
-pub returns-then-self : goal.returns-then-self
-returns-then-self g c =
+pub returns-then-self-size : goal.returns-then-self-size
+returns-then-self-size g c =
     let s = c.self.inside in
-    put_room s.buffer s.count c.args.b (omega (arith, c.self.told)) ∙ ap (λ (t : Text). put t c.args.b) c.self.view_is
+    ap (λ (xs : List ℕ). text xs (s.count + 1)) c.put.ensures
+    ∙ put_room (g.B.Buffer.bytes s.buffer) s.count c.args.b (omega (arith, c.if-self-size.true, c.size.ensures))
+    ∙ ap (λ (t : Text). put t c.args.b) c.self.view_is
 
-pub returns-else-self : goal.returns-else-self
-returns-else-self g c =
+pub returns-else-self-size : goal.returns-else-self-size
+returns-else-self-size g c =
     let s = c.self.inside in
-    sym c.self.view_is ∙ put_full s.buffer s.count c.args.b (omega (arith, c.self.told)) ∙ ap (λ (t : Text). put t c.args.b) c.self.view_is
+    sym c.self.view_is
+    ∙ put_full (g.B.Buffer.bytes s.buffer) s.count c.args.b (omega (arith, c.if-self-size.false, c.size.ensures))
+    ∙ ap (λ (t : Text). put t c.args.b) c.self.view_is
