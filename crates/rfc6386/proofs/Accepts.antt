@@ -66,8 +66,8 @@ body_read md k f c s ss e = go (ltb (length f) (k.size + k.first)) refl (held_by
 
     go : (b : Bool) → ltb (length f) (k.size + k.first) ≡ b → (a : List ℕ) → held_by md k f ≡ a → from b a ≡ read c s ss
         → Reading md k f c s ss
-    go true h a g e = absurd (let z : ◌≡◌ {A = ℕ} 0 1 = cc in omega arith)
-    go false h [] g e = absurd (let z : ◌≡◌ {A = ℕ} 0 1 = cc in omega arith)
+    go true h a g e = absurd (grind arith)
+    go false h [] g e = absurd (grind arith)
     go false h (x ∷ xs) g e =
         let o = decoded md k.key (x ∷ xs) in
         let coded : o.got ≡ c = cc in
@@ -95,9 +95,9 @@ accepts_body : (md : Mode) (p : Parser) (f : List ℕ) (k : Chunk) → chunk f �
 accepts_body md p f k o q = go (body md k f) refl q
   where
     go : (b : Body) → body md k f ≡ b → call md p f ≡ finish (follows k b) p → (finish (follows k b) p).outcome ≡ Ok tt → Accepting md p f
-    go (beyond x y) e q h = absurd (let z : ◌≡◌ {A = ℕ} 0 1 = cc in omega arith)
-    go empty e q h = absurd (let z : ◌≡◌ {A = ℕ} 0 1 = cc in omega arith)
-    go (read c s none) e q h = absurd (let z : ◌≡◌ {A = ℕ} 0 1 = cc in omega arith)
+    go (beyond x y) e q h = absurd (grind arith)
+    go empty e q h = absurd (grind arith)
+    go (read c s none) e q h = absurd (grind arith)
     go (read c s (some ss)) e q h =
         record { k = k; c = c; s = s; ss = ss; opens = o; reading = body_read md k f c s (some ss) e; answers = q }
 
@@ -106,5 +106,5 @@ unfolding call decode
 accepted md p f h = go (chunk f) refl h
   where
     go : (x : Opened) → chunk f ≡ x → (finish (inside md x f) p).outcome ≡ Ok tt → Accepting md p f
-    go (shut r) e h = absurd (let z : ◌≡◌ {A = ℕ} 0 1 = cc in omega arith)
+    go (shut r) e h = absurd (grind arith)
     go (opened k) e h = accepts_body md p f k e (ap (λ (x : Opened). finish (inside md x f) p) e) h

@@ -50,7 +50,7 @@ Unsized (opened k) = k.key ≡ false → (k.width ≡ 0) × (k.height ≡ 0)
 
 unsized : (f : List ℕ) → Unsized (chunk f)
 unsized f =
-    chunk_each Unsized f tt tt (λ e. absurd (let z : ◌≡◌ {A = ℕ} 0 1 = cc in omega arith)) (λ e. (refl, refl)) (λ h. tt)
+    chunk_each Unsized f tt tt (λ e. absurd (grind arith)) (λ e. (refl, refl)) (λ h. tt)
 
 blank_none : NoBlocks blank
 unfolding blank

@@ -64,8 +64,8 @@ sizes_fill n area first ss h e = go (ltb (length area) from) refl (ltb (length a
     go : (a : Bool) → ltb (length area) from ≡ a → (b : Bool) → ltb (length area) (from + sum coded) ≡ b
         → elim a [ true ↦ none | false ↦ elim b [ true ↦ none | false ↦ some (coded ++ last ∷ []) ] ] ≡ some ss
         → (length ss ≡ n) × (first + (3 * (n - 1) + sum ss) ≡ length area)
-    go true p b q e = absurd (let z : ◌≡◌ {A = ℕ} 0 1 = cc in omega arith)
-    go false p true q e = absurd (let z : ◌≡◌ {A = ℕ} 0 1 = cc in omega arith)
+    go true p b q e = absurd (grind arith)
+    go false p true q e = absurd (grind arith)
     go false p false q e =
         let is : coded ++ last ∷ [] ≡ ss = cc in
         let fits : from + sum coded ≤ length area = ltb-false _ _ q in

@@ -86,7 +86,7 @@ pub opened_fits : (f : List ℕ) (k : Chunk) → opened k ≡ chunk f → length
 opened_fits f k e = go (dec_le (2 ^ 28) (length f))
   where
     go : Dec (2 ^ 28 ≤ length f) → length f < 2 ^ 28
-    go (yes h) = absurd (let d = over_long f h in let z : ◌≡◌ {A = ℕ} 0 1 = cc in omega arith)
+    go (yes h) = absurd (let d = over_long f h in grind arith)
     go (no h) = omega (arith, h)
 
 -- a chunk that is shut, of a frame that is short enough, gives 1 or 2
@@ -104,7 +104,7 @@ barred_early f r = go (chunk (take 10 f)) (chunk_bars (take 10 f) (omega (arith,
   where
     go : (x : Opened) → Bars x → looked x ≡ barred r → Early r
     go (shut q) b e = let d : q ≡ r = cc in rw (← d) b
-    go (opened k) b e = absurd (let z : ◌≡◌ {A = ℕ} 0 1 = cc in omega arith)
+    go (opened k) b e = absurd (grind arith)
 
 module _ (md : Mode) (p : Parser) (f : List ℕ) where
   -- where a look refuses a frame under 2^28 bytes, so does the call, alike
@@ -114,14 +114,14 @@ module _ (md : Mode) (p : Parser) (f : List ℕ) where
     where
       go : (x : Opened) → chunk f ≡ x → looked x ≡ barred r → finish (inside md (chunk f) f) p ≡ answer (Err r) blank p
       go (shut q) d e = let same : q ≡ r = cc in rw (d, same)
-      go (opened k) d e = absurd (let z : ◌≡◌ {A = ℕ} 0 1 = cc in omega arith)
+      go (opened k) d e = absurd (grind arith)
 
   -- what follows a chunk that is opened is refused by 3, 4 or 5, if at all
   body_late : (k : Chunk) (b : Body) (r : Refusal) → (finish (follows k b) p).outcome ≡ Err r → Early r → ⊥
   body_late k (beyond end n) r h e = omega (arith, e, ap number_of h)
   body_late k empty r h e = omega (arith, e, ap number_of h)
   body_late k (read c s none) r h e = omega (arith, e, ap number_of h)
-  body_late k (read c s (some ss)) r h e = absurd (let z : ◌≡◌ {A = ℕ} 0 1 = cc in omega arith)
+  body_late k (read c s (some ss)) r h e = absurd (grind arith)
 
   -- where the call gives 1 or 2, so does a look, with the same code
   pub refused_barred : (r : Refusal) → (call md p f).outcome ≡ Err r → Early r → peek f ≡ barred r

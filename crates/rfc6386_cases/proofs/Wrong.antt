@@ -73,7 +73,7 @@ unfolding fresh
 fresh_is = refl
 
 apart : (b : Bool) → b ≡ true → b ≡ false → ⊥
-apart b p q = let z : ◌≡◌ {A = ℕ} 0 1 = cc in omega arith
+apart b p q = grind arith
 
 module _ (md : Mode) (g : Function) (meets : Meets md g) where
   six_outcome : (g fresh six).outcome ≡ Ok tt

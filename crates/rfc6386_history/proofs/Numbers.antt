@@ -30,8 +30,8 @@ use Rattle.vp8_records.proofs.Typed.{typed_sized}
 same_groups : {A : Type 0} (xs ys : List (List A)) → map length xs ≡ map length ys → all xs ≡ all ys → xs ≡ ys
 unfolding joined
 same_groups [] [] h e = refl
-same_groups [] (y ∷ ys) h e = absurd (let z : ◌≡◌ {A = ℕ} 0 1 = cc in omega arith)
-same_groups (x ∷ xs) [] h e = absurd (let z : ◌≡◌ {A = ℕ} 0 1 = cc in omega arith)
+same_groups [] (y ∷ ys) h e = absurd (grind arith)
+same_groups (x ∷ xs) [] h e = absurd (grind arith)
 same_groups {A} (x ∷ xs) (y ∷ ys) h e =
     let n : length x ≡ length y = cc in
     let ns : map length xs ≡ map length ys = cc in

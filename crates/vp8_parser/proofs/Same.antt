@@ -34,8 +34,8 @@ same_chunk k j e i = record {
 -- an answer of the code is the definition's
 same_opened : (r q : Result DataChunk Refusal) → opened_of r ≡ opened_of q → r ≡ q
 same_opened (Err o) (Err u) e = let h : o ≡ u = cc in ap Err h
-same_opened (Err o) (Ok k) e = absurd (let z : ◌≡◌ {A = ℕ} 0 1 = cc in omega arith)
-same_opened (Ok k) (Err o) e = absurd (let z : ◌≡◌ {A = ℕ} 0 1 = cc in omega arith)
+same_opened (Err o) (Ok k) e = absurd (grind arith)
+same_opened (Ok k) (Err o) e = absurd (grind arith)
 same_opened (Ok k) (Ok j) e = let h : chunk_of k ≡ chunk_of j = cc in ap Ok (same_chunk k j h)
 
 pub parse_uncompressed_data_chunk : (f : List ℕ) (r q : Result DataChunk Refusal) → opened_of r ≡ chunk f → opened_of q ≡ chunk f → r ≡ q
@@ -48,15 +48,15 @@ parse md p f r q a b = a ∙ sym b
 same_refusal : (d e : PeekRefusal) → refusal_of d ≡ refusal_of e → d ≡ e
 same_refusal TooShort TooShort h = refl
 same_refusal (StartCode c) (StartCode d) h = let same : c ≡ d = cc in ap StartCode same
-same_refusal TooShort (StartCode d) h = absurd (let z : ◌≡◌ {A = ℕ} 0 1 = cc in omega arith)
-same_refusal (StartCode c) TooShort h = absurd (let z : ◌≡◌ {A = ℕ} 0 1 = cc in omega arith)
+same_refusal TooShort (StartCode d) h = absurd (grind arith)
+same_refusal (StartCode c) TooShort h = absurd (grind arith)
 
 -- each answer of a look for another of the definition
 pub same_look : (r q : Result Look PeekRefusal) → peek_of r ≡ peek_of q → r ≡ q
 same_look (Ok l) (Ok m) e = let h : l ≡ m = cc in ap Ok h
 same_look (Err d) (Err e) h = let same : refusal_of d ≡ refusal_of e = cc in ap Err (same_refusal d e same)
-same_look (Ok l) (Err e) h = absurd (let z : ◌≡◌ {A = ℕ} 0 1 = cc in omega arith)
-same_look (Err e) (Ok l) h = absurd (let z : ◌≡◌ {A = ℕ} 0 1 = cc in omega arith)
+same_look (Ok l) (Err e) h = absurd (grind arith)
+same_look (Err e) (Ok l) h = absurd (grind arith)
 
 pub peek_one : (f : List ℕ) (r q : Result Look PeekRefusal) → peek_of r ≡ peek f → peek_of q ≡ peek f → r ≡ q
 peek_one f r q a b = same_look r q (a ∙ sym b)

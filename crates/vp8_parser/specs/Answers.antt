@@ -1,5 +1,5 @@
 -- The definition's value of each answer of the code.
-use Rattle.std.specs.Prelude as Rust
+use Rattle.std.specs.Prelude as Std
 use Rattle.std.specs.Prelude.{ℕ, ◌^◌, List, ◌++◌, take, replicate, Some, None, Result, Ok, Err}
 use Rattle.std.proofs.Math.Option.{Option, none, some}
 use Rattle.vp8_records.specs.declared.Mode.{Mode}
@@ -29,7 +29,7 @@ opened_early (Err e) = shut (refusal_of e)
 abbrev pub padded : List ℕ → List ℕ
 padded ss = take 8 (ss ++ replicate 8 0)
 
-abbrev pub sizes_of : Option (List ℕ) → Rust.Option (List ℕ)
+abbrev pub sizes_of : Option (List ℕ) → Std.Option (List ℕ)
 sizes_of none = None
 sizes_of (some ss) = Some (padded ss)
 

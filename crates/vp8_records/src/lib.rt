@@ -10,6 +10,8 @@ ghost use Rattle.vp8_records.specs.Outcome.{number_of, refusal_of};
 ghost use Rattle.vp8_records.specs.Mode.{mode_of};
 ghost use Rattle.vp8_records.specs.Length.{partitions_of, length_of};
 
+use vp8_probs::tables;
+
 // The quantizer indices (RFC 6386 section 9.6).
 #[derive(Clone, Copy, PartialEq, Eq, Debug)]
 pub struct QuantIndices {
@@ -361,8 +363,8 @@ impl ModeProbs {
         ensures { result ≡ fresh_modes }
     {
         ModeProbs {
-            intra_16x16_prob: vp8_probs::tables::NK_Y_MODE_PROBS,
-            intra_chroma_prob: vp8_probs::tables::NK_UV_MODE_PROBS,
+            intra_16x16_prob: tables::NK_Y_MODE_PROBS,
+            intra_chroma_prob: tables::NK_UV_MODE_PROBS,
         }
     }
 
@@ -371,8 +373,8 @@ impl ModeProbs {
         ensures { result ≡ key_modes }
     {
         ModeProbs {
-            intra_16x16_prob: vp8_probs::tables::KF_Y_MODE_PROBS,
-            intra_chroma_prob: vp8_probs::tables::KF_UV_MODE_PROBS,
+            intra_16x16_prob: tables::KF_Y_MODE_PROBS,
+            intra_chroma_prob: tables::KF_UV_MODE_PROBS,
         }
     }
 
@@ -401,7 +403,7 @@ impl CoeffProbs {
         ensures { result ≡ fresh_coeffs }
     {
         CoeffProbs {
-            v: vp8_probs::tables::COEFF_DEFAULT_PROBS,
+            v: tables::COEFF_DEFAULT_PROBS,
         }
     }
 
@@ -430,9 +432,9 @@ impl MvProbs {
     pub fn laid(flat: &[u8; 38]) -> Self
         ensures { result ≡ laid_mv flat.now }
     {
-        let i0 = mv_context_at(flat, 0);
-        let i1 = mv_context_at(flat, 19);
-        MvProbs { v: [i0, i1] }
+        MvProbs {
+            v: [mv_context_at(flat, 0), mv_context_at(flat, 19)],
+        }
     }
 
     // What a parser starts with: the default table (17.2).
@@ -440,8 +442,7 @@ impl MvProbs {
     pub fn new() -> Self
         ensures { result ≡ fresh_mv }
     {
-        let flat = vp8_probs::tables::MV_DEFAULT_PROBS;
-        MvProbs::laid(&flat)
+        MvProbs::laid(&tables::MV_DEFAULT_PROBS)
     }
 
     // All zeros: part of a refusal's header.
@@ -449,8 +450,9 @@ impl MvProbs {
     pub fn blank() -> Self
         ensures { result ≡ no_mv }
     {
-        let context = MvContext { v: [0; 19] };
-        MvProbs { v: [context; 2] }
+        MvProbs {
+            v: [MvContext { v: [0; 19] }; 2],
+        }
     }
 }
 
@@ -464,17 +466,12 @@ impl Parser {
     pub fn new() -> Self
         ensures { result ≡ fresh }
     {
-        let segmentation = Segmentation::new();
-        let mb_lf_adjust = MbLfAdjustments::new();
-        let coeff_prob = CoeffProbs::new();
-        let mv_prob = MvProbs::new();
-        let mode_probs = ModeProbs::new();
         Parser {
-            segmentation,
-            mb_lf_adjust,
-            coeff_prob,
-            mv_prob,
-            mode_probs,
+            segmentation: Segmentation::new(),
+            mb_lf_adjust: MbLfAdjustments::new(),
+            coeff_prob: CoeffProbs::new(),
+            mv_prob: MvProbs::new(),
+            mode_probs: ModeProbs::new(),
         }
     }
 
@@ -510,10 +507,6 @@ impl Header {
     pub fn blank() -> Self
         ensures { result ≡ blank }
     {
-        let quant_indices = QuantIndices::blank();
-        let coeff_prob = CoeffProbs::blank();
-        let mv_prob = MvProbs::blank();
-        let mode_probs = ModeProbs::blank();
         Header {
             key_frame: false,
             version: 0,
@@ -531,7 +524,7 @@ impl Header {
             sharpness_level: 0,
             log2_nbr_of_dct_partitions: 0,
             partition_size: [0; 8],
-            quant_indices,
+            quant_indices: QuantIndices::blank(),
             refresh_entropy_probs: false,
             refresh_last: false,
             refresh_golden_frame: false,
@@ -540,14 +533,14 @@ impl Header {
             copy_buffer_to_alternate: 0,
             sign_bias_golden: false,
             sign_bias_alternate: false,
-            coeff_prob,
-            mv_prob,
+            coeff_prob: CoeffProbs::blank(),
+            mv_prob: MvProbs::blank(),
             mb_no_coeff_skip: false,
             prob_skip_false: 0,
             prob_intra: 0,
             prob_last: 0,
             prob_golden: 0,
-            mode_probs,
+            mode_probs: ModeProbs::blank(),
             bd_range: 0,
             bd_value: 0,
             bd_count: 0,
