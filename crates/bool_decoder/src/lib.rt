@@ -202,6 +202,7 @@ impl<'a> BoolDecoder<'a> {
     }
 
     // A bool at the chance probability / 256 of a 0: section 7.2.
+    #[inline(always)]
     pub fn read_bit(&mut self, probability: u8) -> bool
         requires { Room self.old 1 }
         ensures { Ran (bool probability) self.old result self.new 1 }
@@ -242,6 +243,7 @@ impl<'a> BoolDecoder<'a> {
 
     // A bool at even chances: it doubles once, or not at all. The limit is made of the window each time, so that several in a row make it
     // once.
+    #[inline(always)]
     pub fn read_flag(&mut self) -> bool
         requires { Room self.old 1 }
         ensures { Ran flag self.old result self.new 1 }
@@ -278,6 +280,7 @@ impl<'a> BoolDecoder<'a> {
     }
 
     // nbits bools at even chances, the high bit first.
+    #[inline(always)]
     pub fn read_literal(&mut self, nbits: u32) -> u32
         requires { (nbits ≤ 31) × Room self.old nbits }
         ensures { Lit nbits self.old result self.new }
@@ -290,6 +293,7 @@ impl<'a> BoolDecoder<'a> {
     }
 
     // A magnitude of nbits bools, then a sign.
+    #[inline(always)]
     pub fn read_signed(&mut self, nbits: u32) -> i32
         requires { (nbits ≤ 31) × Room self.old (nbits + 1) }
         ensures { Sgn nbits self.old result self.new }
