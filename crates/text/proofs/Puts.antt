@@ -12,14 +12,14 @@ use lib.Dec.{ltb}
 use lib.ListN.{length, get_or, take, set, length-set}
 use lib.Seq.{take-nil, take-suc, take-suc-set, append_snoc}
 use borrow.Author.Tests.{lt-ltb, le-ltb}
-use Rattle.text.specs.Text.{Text, text, put, puts}
+use Rattle.text.specs.Text.{Text, text, standing, put, puts}
 use Rattle.text.specs.Digits.{glyph, hex_of}
 
-pub put_room : (xs : List ℕ) (n b : ℕ) → n < length xs → text (set xs n b) (n + 1) ≡ put (text xs n) b
+pub put_room : {p : ℕ} (xs : List ℕ) (n b : ℕ) → n < length xs → standing p (set xs n b) (n + 1) ≡ put (standing p xs n) b
 unfolding put
 put_room xs n b h = rw (lt-ltb n (length xs) h)
 
-pub put_full : (xs : List ℕ) (n b : ℕ) → length xs ≤ n → text xs n ≡ put (text xs n) b
+pub put_full : {p : ℕ} (xs : List ℕ) (n b : ℕ) → length xs ≤ n → standing p xs n ≡ put (standing p xs n) b
 unfolding put
 put_full xs n b h = rw (le-ltb n (length xs) h)
 
@@ -70,7 +70,7 @@ hex_turn t u v w xs i h e d f =
     )
 
 -- what is put takes no room from the buffer
-sized : (b : Bool) (t : Text) (n x : ℕ) → length (cond b (text (set t.buffer t.count x) n) t).buffer ≡ length t.buffer
+sized : (b : Bool) (t : Text) (n x : ℕ) → length (cond b (standing t.place (set t.buffer t.count x) n) t).buffer ≡ length t.buffer
 sized true t n x = length-set t.buffer t.count x
 sized false t n x = refl
 
@@ -84,7 +84,7 @@ pub fits : (buffer : List ℕ) (n : ℕ) (xs : List ℕ) → n + length xs ≤ l
     → (take (n + length xs) (puts (text buffer n) xs).buffer ≡ take n buffer ++ xs) × ((puts (text buffer n) xs).count ≡ n + length xs)
 fits buffer n [] h = rw (add-zero n, puts_nil (text buffer n)) (sym (append-nil (take n buffer)), refl)
 fits buffer n (x ∷ xs) h =
-    let step = put_room buffer n x (omega arith) in
+    let step = put_room {p = 0} buffer n x (omega arith) in
     let more = fits (set buffer n x) (n + 1) xs (rw (length-set buffer n x) (omega arith)) in
     let e : n + suc (length xs) ≡ n + 1 + length xs = omega arith in
     let front : take (n + 1) (set buffer n x) ≡ take n buffer ++ (x ∷ []) = rw (add-one n) (take-suc-set buffer n x (omega arith)) in
@@ -101,11 +101,11 @@ stands_more : (x : ℕ) (xs buffer : List ℕ) (n : ℕ) → (suc n ≤ length b
 stands_more x xs buffer n next full (yes g) =
     let left : length buffer - n ≡ suc (length buffer - (n + 1)) = omega arith in
     let front : take (n + 1) (set buffer n x) ≡ take n buffer ++ (x ∷ []) = rw (add-one n) (take-suc-set buffer n x g) in
-    rw (puts_cons (text buffer n) x xs, ← put_room buffer n x g, left)
+    rw (puts_cons (text buffer n) x xs, ← put_room {p = 0} buffer n x g, left)
     (next g ∙ rw (front, length-set buffer n x) (append_snoc (take n buffer) x (take (length buffer - (n + 1)) xs)))
 stands_more x xs buffer n next full (no g) =
     let none : length buffer - n ≡ 0 = omega arith in
-    rw (puts_cons (text buffer n) x xs, ← put_full buffer n x (omega arith), none) (rw none at full)
+    rw (puts_cons (text buffer n) x xs, ← put_full {p = 0} buffer n x (omega arith), none) (rw none at full)
 
 pub stands : (xs buffer : List ℕ) (n : ℕ) → n ≤ length buffer → Stands xs buffer n
 stands [] buffer n h = rw (puts_nil (text buffer n), take-nil {A = ℕ} (length buffer - n)) (sym (append-nil (take n buffer)))
@@ -128,3 +128,36 @@ then_one t u v xs b e d = then t u v xs (b ∷ []) e (d ∙ sym (puts_cons u b [
 -- the same piece by other words
 pub worded : (t u : Text) (xs ys : List ℕ) → u ≡ puts t xs → xs ≡ ys → u ≡ puts t ys
 worded t u xs ys e d = e ∙ ap (puts t) d
+
+-- a buffer lent under any name takes the same bytes as one of the text's own, and keeps its name
+moved : (p : ℕ) (b : Bool) (xs ys : List ℕ) (m n : ℕ)
+    → cond b (standing p ys m) (standing p xs n) ≡ standing p (cond b (text ys m) (text xs n)).buffer (cond b (text ys m) (text xs n)).count
+moved p true xs ys m n = refl
+moved p false xs ys m n = refl
+
+pub put_standing : (p : ℕ) (xs : List ℕ) (n b : ℕ)
+    → put (standing p xs n) b ≡ standing p (put (text xs n) b).buffer (put (text xs n) b).count
+unfolding put
+put_standing p xs n b = moved p (ltb n (length xs)) xs (set xs n b) (n + 1) n
+
+pub puts_standing : (p : ℕ) (xs : List ℕ) (n : ℕ) (bs : List ℕ)
+    → puts (standing p xs n) bs ≡ standing p (puts (text xs n) bs).buffer (puts (text xs n) bs).count
+unfolding puts
+puts_standing p xs n [] = refl
+puts_standing p xs n (b ∷ bs) =
+    ap (λ (t : Text). puts t bs) (put_standing p xs n b)
+    ∙ puts_standing p (put (text xs n) b).buffer (put (text xs n) b).count bs
+    ∙ ap (λ (t : Text). standing p (puts t bs).buffer (puts t bs).count) (sym (put_standing 0 xs n b))
+
+named : (b : Bool) (t : Text) (n x : ℕ) → (cond b (standing t.place (set t.buffer t.count x) n) t).place ≡ t.place
+named true t n x = refl
+named false t n x = refl
+
+pub place_put : (t : Text) (x : ℕ) → (put t x).place ≡ t.place
+unfolding put
+place_put t x = named (ltb t.count (length t.buffer)) t (t.count + 1) x
+
+pub place_puts : (t : Text) (xs : List ℕ) → (puts t xs).place ≡ t.place
+unfolding puts
+place_puts t [] = refl
+place_puts t (x ∷ xs) = place_puts (put t x) xs ∙ place_put t x

@@ -1,9 +1,9 @@
-// Text in a buffer of fixed size: bytes, two hexadecimal digits a byte, decimal numbers, templates. No input, no output.
+// Text in a buffer of fixed size, its own or a lent one: bytes, two hexadecimal digits a byte, decimal numbers, templates. No input, no output.
 // Each writer puts its bytes after those that are there, as far as the buffer goes. No public function has a premise.
 #![tactic(auto)]
 
 ghost use Rattle.std.specs.Prelude.{◌≡◌, ◌<◌, ℕ, List, length, min, set, take, replicate};
-ghost use Rattle.text.specs.Text.{text, put, puts};
+ghost use Rattle.text.specs.Text.{text, standing, put, puts};
 ghost use Rattle.text.specs.Digits.{glyph as Digits·glyph, hex_of, decimal_of, signed_of};
 ghost use Rattle.text.specs.Template.{filled};
 ghost use Rattle.text.specs.Lines.{numbered};
@@ -14,6 +14,9 @@ use std::marker::Model;
 pub trait Buffer {
     ghost bytes: { Self → List ℕ };
 
+    // Which bytes, where they are lent, so that who lent them learns what was put.
+    ghost place: { Self → ℕ };
+
     fn size(&self) -> usize
         ensures { result ≡ length (bytes self.now) };
 
@@ -22,12 +25,15 @@ pub trait Buffer {
 
     fn put(&mut self, at: usize, b: u8)
         requires { at < length (bytes self.old) }
-        ensures { bytes self.new ≡ set (bytes self.old) at b };
+        ensures bytes { bytes self.new ≡ set (bytes self.old) at b }
+        ensures place { place self.new ≡ place self.old };
 }
 
 // The text's own.
 impl<const N: usize> Buffer for [u8; N] {
     ghost bytes = { λ xs. xs };
+
+    ghost place = { λ _. 0 };
 
     fn size(&self) -> usize {
         N
@@ -45,6 +51,8 @@ impl<const N: usize> Buffer for [u8; N] {
 // A lent one.
 impl<'a> Buffer for &'a mut [u8] {
     ghost bytes = { λ r. r.now };
+
+    ghost place = { λ r. r.ghost_name };
 
     fn size(&self) -> usize {
         self.len()
@@ -68,11 +76,11 @@ pub struct Text<B: Buffer> {
 
 impl<B: Buffer> Model for Text<B> {
     ghost use Rattle.std.specs.Prelude.{◌≤◌, length};
-    ghost use Rattle.text.specs.Text.{Text, text};
+    ghost use Rattle.text.specs.Text.{Text, standing};
 
     ghost Value = { Text };
 
-    ghost view = { λ t. text (B.bytes t.buffer) t.count };
+    ghost view = { λ t. standing (B.place t.buffer) (B.bytes t.buffer) t.count };
 
     ghost invariant = { λ t. t.count ≤ length (B.bytes t.buffer) };
 }
@@ -103,14 +111,14 @@ impl<const N: usize> Text<[u8; N]> {
 impl<B: Buffer> Text<B> {
     // Nothing yet, over what is in the buffer.
     pub fn over(buffer: B) -> Self
-        ensures { result ≡ text (B.bytes buffer) 0 }
+        ensures { result ≡ standing (B.place buffer) (B.bytes buffer) 0 }
     {
         Text { buffer, count: 0 }
     }
 
     // Begins with the first `count` bytes of the buffer; with all of it where count is more.
     pub fn after(buffer: B, count: usize) -> Self
-        ensures { result ≡ text (B.bytes buffer) (min count (length (B.bytes buffer))) }
+        ensures { result ≡ standing (B.place buffer) (B.bytes buffer) (min count (length (B.bytes buffer))) }
     {
         let count = count.min(buffer.size());
         Text { buffer, count }
@@ -125,14 +133,15 @@ impl<B: Buffer> Text<B> {
 
     // Begins again, over the old text.
     pub fn clear(&mut self)
-        ensures { self.new ≡ text self.old.buffer 0 }
+        ensures { self.new ≡ standing self.old.place self.old.buffer 0 }
     {
         self.count = 0;
     }
 
     // The whole buffer, of which the text is the start.
     pub fn into_buffer(self) -> B
-        ensures { B.bytes result ≡ self.buffer }
+        ensures bytes { B.bytes result ≡ self.buffer }
+        ensures place { B.place result ≡ self.place }
     {
         self.buffer
     }

@@ -12,4 +12,4 @@ returns c =
     let luma : length m.intra_16x16_prob ≡ 4 = search rules in
     let chroma : length m.intra_chroma_prob ≡ 3 = search rules in
     let size = length-append m.intra_16x16_prob m.intra_chroma_prob in
-    c.into_buffer.ensures ∙ full _ _ 7 _ c.new-out.ensures c.put_modes.ensures (omega arith)
+    c.into_buffer.ensures.bytes ∙ full _ _ 7 _ c.new-out.ensures c.put_modes.ensures (omega arith)

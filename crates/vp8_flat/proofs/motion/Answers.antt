@@ -6,5 +6,5 @@ use Rattle.vp8_flat.proofs.Runs.{full}
 use Rattle.vp8_flat.proofs.motion.Goals as goal
 
 pub returns : goal.returns
-returns c = c.into_buffer.ensures
+returns c = c.into_buffer.ensures.bytes
     ∙ full _ _ 38 _ c.new-out.ensures c.put_motion.ensures (mv.size c.args.m (Typed.mv c.args.m _ c.well_formed.0))

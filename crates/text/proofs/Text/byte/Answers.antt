@@ -3,14 +3,16 @@ use native.Mathlib.Omega.{arith}
 use mathlib.Core.Path.{ap, sym, ◌∙◌}
 use Prim.Native.Nat.{ℕ, ◌+◌}
 use mathlib.Core.List.{List}
-use Rattle.text.specs.Text.{Text, text, put}
+use lib.ListN.{set}
+use Rattle.text.specs.Text.{Text, standing, put}
 use Rattle.text.proofs.Puts.{put_room, put_full}
 use Rattle.text.proofs.Text.byte.Goals as goal
 
 pub returns-then-self-size : goal.returns-then-self-size
 returns-then-self-size g c =
     let s = c.self.inside in
-    ap (λ (xs : List ℕ). text xs (s.count + 1)) c.put.ensures
+    ap (λ (xs : List ℕ). standing (g.B.Buffer.place c.put.new.self) xs (s.count + 1)) c.put.ensures.bytes
+    ∙ ap (λ (p : ℕ). standing p (set (g.B.Buffer.bytes s.buffer) s.count c.args.b) (s.count + 1)) c.put.ensures.place
     ∙ put_room (g.B.Buffer.bytes s.buffer) s.count c.args.b (omega (arith, c.if-self-size.true, c.size.ensures))
     ∙ ap (λ (t : Text). put t c.args.b) c.self.view_is
 
