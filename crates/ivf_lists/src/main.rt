@@ -65,7 +65,7 @@ fn tell(rt: &impl Print, walked: Walked, offsets: &[u64], lengths: &[u32]) -> bo
     let to = text::bytes(&mut out, 0, b"count");
     let to = spaced(&mut out, to, walked.count as u64);
     let to = text::bytes(&mut out, to, b" refused");
-    let to = spaced(&mut out, to, ended.number() as u64);
+    let to = spaced(&mut out, to, ivf::refusal_number(ended) as u64);
     let to = put_offsets(&mut out, to, offsets);
     let to = put_lengths(&mut out, to, lengths);
     let to = text::byte(&mut out, to, b'\n');
