@@ -7,6 +7,7 @@ use ivf::Walked;
 use lines::{CutShort, Fault};
 use std::io;
 use std::io::Read;
+use text::Text;
 
 // The entries before a walk.
 fn fill<T: From<u32> + Drop>(list: &mut [T], first: u32) {
@@ -16,40 +17,38 @@ fn fill<T: From<u32> + Drop>(list: &mut [T], first: u32) {
 }
 
 // A number after a space.
-fn spaced(out: &mut [u8], at: usize, n: u64) -> usize {
-    let to = text::byte(out, at, b' ');
-    text::decimal(out, to, n)
+fn spaced(out: &mut Text<[u8; 4096]>, n: u64) {
+    out.byte(b' ');
+    out.decimal(n);
 }
 
 // The entries after a word.
-fn put<T: Copy + Into<u64>>(out: &mut [u8], at: usize, word: &[u8], list: &[T]) -> usize {
-    let mut to = text::bytes(out, at, word);
+fn put<T: Copy + Into<u64>>(out: &mut Text<[u8; 4096]>, word: &[u8], list: &[T]) {
+    out.bytes(word);
     for &entry in list {
-        to = spaced(out, to, entry.into());
+        spaced(out, entry.into());
     }
-    to
 }
 
-// The line of an answer; its length.
-fn line(out: &mut [u8], walked: Walked, offsets: &[u64], lengths: &[u32]) -> usize {
-    let ended = walked.ended;
-    let to = text::bytes(out, 0, b"count");
-    let to = spaced(out, to, walked.count as u64);
-    let to = text::bytes(out, to, b" refused");
-    let to = spaced(out, to, u64::from(ended.number()));
-    let to = put(out, to, b" offsets", offsets);
-    let to = put(out, to, b" lengths", lengths);
-    text::byte(out, to, b'\n')
+// The line of an answer.
+fn line(out: &mut Text<[u8; 4096]>, walked: Walked, offsets: &[u64], lengths: &[u32]) {
+    out.bytes(b"count");
+    spaced(out, walked.count as u64);
+    out.bytes(b" refused");
+    spaced(out, u64::from(ivf::refusal_number(walked.ended)));
+    put(out, b" offsets", offsets);
+    put(out, b" lengths", lengths);
+    out.byte(b'\n');
 }
 
-// The next recording's walk into lists of the lengths that it asks for; how long its line is, or none where the input ends.
+// The line of the next recording's walk into lists of the lengths that it asks for; none where the input ends.
 fn next(
     input: &mut impl Read,
     file: &mut [u8],
     offsets: &mut [u64],
     lengths: &mut [u32],
-    out: &mut [u8],
-) -> Result<Option<usize>, Fault> {
+    out: &mut Text<[u8; 4096]>,
+) -> Result<Option<()>, Fault> {
     let Some(of_offsets) = lines::take_byte(input) else {
         return Ok(None);
     };
@@ -65,7 +64,9 @@ fn next(
     fill(offsets, 1000000);
     fill(lengths, 2000000);
     let walked = ivf::walk(&file[..count], offsets, lengths);
-    Ok(Some(line(out, walked, offsets, lengths)))
+    out.clear();
+    line(out, walked, offsets, lengths);
+    Ok(Some(()))
 }
 
 // Nothing says that the input ends, so the loop has a number of turns that no run uses up.
@@ -73,10 +74,10 @@ fn records(rt: &impl Print, input: &mut impl Read) -> io::Result<()> {
     let mut file = [0u8; 65536];
     let mut offsets = [0u64; 64];
     let mut lengths = [0u32; 64];
-    let mut out = [0u8; 4096];
+    let mut out = Text::<[u8; 4096]>::new();
     for _ in 0..u64::MAX {
         match next(input, &mut file, &mut offsets, &mut lengths, &mut out) {
-            Ok(Some(end)) => lines::show(rt, &out, end)?,
+            Ok(Some(())) => lines::show(rt, out.as_bytes())?,
             Ok(None) => return Ok(()),
             Err(fault) => return rt.println(fault),
         }

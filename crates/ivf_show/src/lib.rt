@@ -8,7 +8,7 @@ ghost use Rattle.ivf.specs.Walk.{bytes_of};
 ghost use Rattle.ivf.specs.Listed.{places_of};
 ghost use Rattle.vp8_recording.specs.Plays.{all_in};
 
-use ivf::Ended;
+use ivf::WalkRefusal;
 use vp8_records::{Mode, Parser};
 
 // The first `count` listed frames, each to the parser that the one before left, and its lines; the parser after all of them.
@@ -35,8 +35,8 @@ fn tell_frames(
     state
 }
 
-fn tell_refusal(rt: &impl Print, ended: Ended) {
-    let number = ended.number();
+fn tell_refusal(rt: &impl Print, ended: Result<(), WalkRefusal>) {
+    let number = ivf::refusal_number(ended);
     if number != 0 {
         let _ = println!(rt; "refused {number}");
     }

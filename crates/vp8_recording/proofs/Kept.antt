@@ -22,7 +22,8 @@ use Rattle.rfc6386_history.proofs.Numbers.{held_only}
 use Rattle.ivf.specs.Ivf.{headed, Recording}
 use Rattle.ivf.specs.Walk.{walked, bytes_of}
 use Rattle.ivf.specs.Listed.{room}
-use Rattle.ivf.specs.declared.Ended.TheVariants.{ListFull}
+use Rattle.std.proofs.Common.{Err}
+use Rattle.ivf.specs.declared.WalkRefusal.TheVariants.{ListFull}
 use Rattle.ivf.proofs.Recordings.{walked_frames, enough}
 use Rattle.ivf.proofs.Fills.{lists_only}
 use Rattle.vp8_recording.specs.declared.Played.{Played}
@@ -52,7 +53,7 @@ module _ {md : Mode} {p : Parser} {f rest : List ℕ} {fs : List (List ℕ)} {r 
   plays_frames = a.parser ∙ ap (λ (l : List (List ℕ)). after p (all_in md l)) (walked_frames h (room os ls))
 
   -- where the lists had room, after all of them
-  pub plays_all : (r.walked.ended ≡ ListFull → ⊥) → r.parser ≡ after p (all_in md fs)
+  pub plays_all : (r.walked.ended ≡ Err ListFull → ⊥) → r.parser ≡ after p (all_in md fs)
   plays_all e =
       plays_frames ∙ ap (λ (l : List (List ℕ)). after p (all_in md l))
       (take_all (room os ls) fs (enough h (room os ls) (λ z. e (a.listed.ended ∙ z))))
