@@ -158,7 +158,7 @@ fn take_stored(input: &mut impl Read, stored: &mut [u8]) -> Result<usize, CutSho
 }
 
 // The whole list. Nothing says that it ends, so the loop has a number of turns that no run uses up.
-fn replay(rt: &impl Print, input: &mut impl Read) -> Result<Tally, Fault> {
+fn run(rt: &impl Print, input: &mut impl Read) -> Result<Tally, Fault> {
     let mut head = [0u8; 8];
     if lines::take_exact(input, &mut head, 8).is_err() || head != *b"SBBOOLS1" {
         return Err(Fault::Head);
@@ -180,7 +180,7 @@ fn replay(rt: &impl Print, input: &mut impl Read) -> Result<Tally, Fault> {
 
 // What cannot be written is left out.
 fn main(rt: HostRuntime) {
-    let _ = match replay(&rt, &mut rt.reader()) {
+    let _ = match run(&rt, &mut rt.reader()) {
         Ok(tally) => rt.println(tally),
         Err(fault) => rt.println(fault),
     };

@@ -13,12 +13,6 @@ pub fn show(rt: &impl Print, text: &[u8]) -> io::Result<()> {
     rt.write_all(text)
 }
 
-// A line of its own.
-pub fn say(rt: &impl Print, word: &[u8]) -> io::Result<()> {
-    rt.write_all(word)?;
-    rt.write_all(b"\n")
-}
-
 // Reads until buf is full, the input ends or a read fails; how many bytes came, to the start of buf.
 fn read_full(input: &mut impl Read, buf: &mut [u8]) -> usize
     ensures { IsPrefixLen result buf.new }
