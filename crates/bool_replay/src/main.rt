@@ -6,8 +6,7 @@
 ghost use Rattle.std.specs.Prelude.{IfOk};
 ghost use Rattle.lines.specs.Read.{IsPrefixLen};
 
-use bool_script::engines::Engine;
-use bool_script::input;
+use bool_script::{Engine, Line, input, line};
 use lines::CutShort;
 use std::fmt;
 use std::io::Read;
@@ -95,7 +94,7 @@ impl Tally {
         area: &[u8],
         reads: &[u8],
         stored: &[u8],
-        out: &mut [u8],
+        out: &mut Line,
     ) {
         self.scripts = self.scripts.wrapping_add(1);
         self.operations = self.operations.wrapping_add((reads.len() / 2) as u64);
@@ -112,7 +111,7 @@ impl Tally {
         &mut self,
         rt: &impl Print,
         input: &mut impl Read,
-        out: &mut [u8],
+        out: &mut Line,
     ) -> Result<(), Fault> {
         let mut area = [0u8; 4096];
         let mut reads = [0u8; 2048];
@@ -143,9 +142,10 @@ impl Tally {
     }
 }
 
-fn is_line(area: &[u8], reads: &[u8], stored: &[u8], engine: Engine, out: &mut [u8]) -> bool {
-    let n = bool_script::line(area, reads, engine, out);
-    text::part(out, n) == stored
+fn is_line(area: &[u8], reads: &[u8], stored: &[u8], engine: Engine, out: &mut Line) -> bool {
+    out.clear();
+    line(area, reads, engine, out);
+    out.as_bytes() == stored
 }
 
 // A line from the list; its length.
@@ -164,7 +164,7 @@ fn run(rt: &impl Print, input: &mut impl Read) -> Result<Tally, Fault> {
         return Err(Fault::Head);
     }
     let mut tally = Tally::default();
-    let mut out = [0u8; 32768];
+    let mut out = Line::new();
     for _ in 0..u64::MAX {
         match lines::take_byte(input).ok_or(CutShort)? {
             SCRIPT => tally.script(rt, input, &mut out)?,

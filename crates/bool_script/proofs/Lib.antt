@@ -1,5 +1,4 @@
--- What the proofs of several functions use; One says that no contract leaves a choice.
-pub mod Answers
-pub mod One
-pub mod Known
+-- OneRead is what a read of a decoder says of its text, Known what the kinds of a script say of the whole.
+mod OneRead
+mod Known
 mod Turns

@@ -1,5 +1,4 @@
--- What the contracts cite: a decoder of either engine (Either), what a script's reads ask for (Script) and the line that tells what the bare
+-- What the contracts cite: what a script's reads ask for, and where they leave a decoder (Script), and the line that tells what the bare
 -- decoder answers (Line).
-pub mod Either
 pub mod Script
 pub mod Line

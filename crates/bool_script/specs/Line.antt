@@ -1,14 +1,16 @@
 -- The line that tells a script (docs/RULES.md, "The programs"): for each read what it gave, `,@` and the position after it, `+` and the
 -- bits past the end, with spaces between the reads; then ` |` and range, value, count, position and bits past the end.
-use Rattle.std.specs.Prelude.{ℕ, Bool, true, false, List, [], ◌∷◌, ◌++◌}
+use Rattle.std.specs.Prelude.{ℕ, ◌≡◌, Bool, true, false, List, [], ◌∷◌, ◌++◌, Result, Ok, Err}
+use Rattle.std.specs.Borrow.{Bor}
 use Rattle.rfc6386.specs.Decoder.{State, Out, bits, start, whole, count_of, position, past}
 use Rattle.rfc6386.specs.Reads.{bit}
+use Rattle.bool_decoder.specs.Refusal.{number_of}
+use Rattle.bool_decoder.specs.declared.ReadRefusal.{ReadRefusal}
 use Rattle.text.specs.Digits.{decimal_of, signed_of}
 use Rattle.text.specs.Template.{ascii, filled}
-use Rattle.bool_slow.specs.Asks.{answered}
-use Rattle.bool_slow.specs.declared.bare.Value.{Value}
-use Rattle.bool_slow.specs.declared.bare.Value.TheVariants.{Bit, Plain, Signed, Refused}
-use Rattle.bool_script.specs.Script.{ask_of}
+use Rattle.text.specs.Text.{Text, puts}
+use Rattle.bool_slow.specs.Asks.{Ask, answered, Value, Bit, Plain, Signed, Refused}
+use Rattle.bool_script.specs.Script.{ask_of, Leaves}
 
 -- a value in decimal; `r` and the number of a refusal
 unfoldable pub value_text : Value → List ℕ
@@ -16,6 +18,17 @@ value_text (Bit b) = decimal_of (bit b)
 value_text (Plain n) = decimal_of n
 value_text (Signed z) = signed_of z
 value_text (Refused k) = 114 ∷ decimal_of k
+
+-- the value is told after the text t; a refusal is still to be told
+abbrev pub Told : {X : Type 0} → Value → Text → Text → Result X ReadRefusal → Type 0
+Told v t u (Ok x) = u ≡ puts t (value_text v)
+Told v t u (Err e) = (u ≡ t) × (v ≡ Refused (number_of e))
+
+-- so it is of a read from d on, which leaves d'
+pub record Tells {D X : Type 0} (area_of : D → Bor (List ℕ)) (state_of : D → State) (a : Ask) (d : D) (t : Text) (r : Result X ReadRefusal)
+    (d' : D) (u : Text) : Type 0 where
+  pub leaves : Leaves area_of state_of a d d'
+  pub told : Told (answered (area_of d).now a (state_of d)).got t u r
 
 -- one read: what it gave, the position after it, and the bits past the end
 unfoldable pub read_text : ℕ → Out Value → List ℕ

@@ -3,124 +3,130 @@
 // what the decoder shows; which engine made it has no say.
 #![tactic(auto)]
 
-pub mod engines;
 pub mod input;
 pub mod program;
 
-ghost use Rattle.std.specs.Prelude.{◌≡◌, eqb};
+ghost use Rattle.std.specs.Prelude.{◌≡◌, true};
 ghost use Rattle.rfc6386.specs.Decoder.{bits};
 ghost use Rattle.bool_slow.specs.Asks.{answered};
-ghost use Rattle.text.specs.Text.{text, puts};
-ghost use Rattle.bool_script.specs.Either.{Over, state_of};
-ghost use Rattle.bool_script.specs.Script.{ask_of, Leaves, known};
-ghost use Rattle.bool_script.specs.Line.{value_text, read_text, gap_text, end_text, line_of};
+ghost use Rattle.text.specs.Text.{puts};
+ghost use Rattle.bool_script.specs.Script.{ask_of, asked, Leaves, known};
+ghost use Rattle.bool_script.specs.Line.{Tells, read_text, end_text, line_from, line_of};
 
-use bool_slow::bare::Value;
-use engines::{Decoder, Engine};
+use bool_decoder::{BoolDecoder, ReadRefusal};
+use bool_slow::SlowDecoder;
+use bool_slow::bare::BareDecoder;
+use text::Text;
 
-// What a step leaves: the decoder, and where the line ends.
-#[derive(Clone, Copy)]
-struct Told {
-    dec: Decoder,
-    at: usize,
+// Which engine.
+#[derive(Clone, Copy, PartialEq, Eq, Debug)]
+pub enum Engine {
+    // `bool_decoder`.
+    Window,
+    // `bool_slow`.
+    Slow,
 }
 
-fn tell(out: &mut [u8], at: usize, value: Value) -> usize
-    ensures { text out.new result ≡ puts (text out.old at) (value_text value) }
-{
-    match value {
-        Value::Bit(b) => {
-            if b {
-                text::byte(out, at, b'1')
-            } else {
-                text::byte(out, at, b'0')
-            }
-        }
-        Value::Plain(n) => text::decimal(out, at, n as u64),
-        Value::Signed(z) => text::signed(out, at, z),
-        Value::Refused(n) => {
-            let after = text::byte(out, at, b'r');
-            text::decimal(out, after, n as u64)
+// One read of a script.
+#[derive(Clone, Copy, PartialEq, Eq, Debug)]
+pub enum Ask {
+    // A bool at a probability.
+    Bool(u8),
+    // A literal of a width.
+    Plain(u8),
+    // A signed literal of a width.
+    Signed(u8),
+}
+
+impl Ask {
+    // A kind that is not known counts as a signed literal.
+    #[tactic(auto, unfolding(crate::specs::Script::ask_of))]
+    pub fn new(kind: u8, number: u8) -> Self
+        ensures { asked result ≡ ask_of kind number }
+    {
+        match kind {
+            0 => Ask::Bool(number),
+            1 => Ask::Plain(number),
+            _ => Ask::Signed(number),
         }
     }
 }
 
-// One read, and what the line says of it.
-fn step(area: &[u8], dec: Decoder, kind: u8, number: u8, out: &mut [u8], at: usize) -> Told
-    requires { Over area.now dec }
-    ensures leaves { Leaves area.now (ask_of kind number) dec result.dec }
-    ensures at_after { text out.new result.at ≡ puts (text out.old at)
-        (read_text (bits area.now) (answered area.now (ask_of kind number) (state_of area.now dec))) }
+// What one read gives; nothing where it is refused.
+fn tell_value<D: BareDecoder, const N: usize>(
+    dec: &mut D,
+    ask: Ask,
+    out: &mut Text<N>,
+) -> Result<(), ReadRefusal>
+    ensures { Tells D.area D.state (asked ask) dec.old out.old result dec.new out.new }
 {
-    let answer = engines::read(area, dec, kind, number);
-    let value = answer.value;
-    let next = answer.dec;
-    let told = tell(out, at, value);
-    let seen = engines::shown(area, next);
-    let reached = [seen.position, answer.past];
-    let end = text::fill(out, told, b",@|+|", &reached);
-    Told { dec: next, at: end }
+    match ask {
+        Ask::Bool(prob) => out.decimal(u64::from(dec.ask_bool(prob)?.value)),
+        Ask::Plain(width) => out.decimal(u64::from(dec.ask_plain(u32::from(width))?.value)),
+        Ask::Signed(width) => out.signed(dec.ask_signed(u32::from(width))?.value),
+    }
+    Ok(())
+}
+
+// One read, and what the line says of it.
+fn step<D: BareDecoder, const N: usize>(dec: &mut D, ask: Ask, out: &mut Text<N>)
+    ensures leaves { Leaves D.area D.state (asked ask) dec.old dec.new }
+    ensures told { out.new ≡ puts out.old
+        (read_text (bits (D.area dec.old).now) (answered (D.area dec.old).now (asked ask) (D.state dec.old))) }
+{
+    if let Err(refusal) = tell_value(dec, ask, out) {
+        out.byte(b'r');
+        out.decimal(u64::from(refusal.number()));
+    }
+    let seen = dec.shown();
+    out.fill(b",@|+|", &[seen.position, seen.past]);
 }
 
 // What the decoder shows: range, value, count, position and bits past the end.
-fn finish(area: &[u8], dec: Decoder, out: &mut [u8], at: usize) -> usize
-    requires { Over area.now dec }
-    ensures { text out.new result
-        ≡ puts (text out.old at) (end_text (bits area.now) (state_of area.now dec)) }
+fn finish<D: BareDecoder, const N: usize>(dec: &D, out: &mut Text<N>)
+    ensures { out.new ≡ puts out.old (end_text (bits (D.area dec.now).now) (D.state dec.now)) }
 {
-    let seen = engines::shown(area, dec);
+    let seen = dec.shown();
     let shown = [
-        seen.range as u32,
-        seen.value as u32,
-        seen.count as u32,
+        u32::from(seen.range),
+        u32::from(seen.value),
+        u32::from(seen.count),
         seen.position,
         seen.past,
     ];
-    let bar = text::bytes(out, at, b" |");
-    text::fill(out, bar, b" | | | | |", &shown)
+    out.bytes(b" |");
+    out.fill(b" | | | | |", &shown);
+}
+
+// The line of the reads from a decoder on, with a space before every read but the first. A byte without its second is no read.
+fn tell_reads<D: BareDecoder + Drop, const N: usize>(mut dec: D, reads: &[u8], out: &mut Text<N>)
+    ensures { out.new ≡ puts out.old (line_from (D.area dec).now true reads.now (D.state dec)) }
+{
+    for (place, read) in reads.chunks_exact(2).enumerate() {
+        if place != 0 {
+            out.byte(b' ');
+        }
+        step(&mut dec, Ask::new(read[0], read[1]), out);
+    }
+    finish(&dec, out);
+}
+
+// The longest line, of 1,024 reads, has under 26,000 bytes.
+pub type Line = Text<32768>;
+
+// The script's line, by either engine.
+pub fn line<const N: usize>(area: &[u8], reads: &[u8], engine: Engine, out: &mut Text<N>)
+    ensures { out.new ≡ puts out.old (line_of area.now reads.now) }
+{
+    match engine {
+        Engine::Window => tell_reads(BoolDecoder::new(area), reads, out),
+        Engine::Slow => tell_reads(SlowDecoder::init_bool_decoder(area), reads, out),
+    }
 }
 
 // Whether every kind of the script is known.
 pub fn kinds_known(reads: &[u8]) -> bool
     ensures { result ≡ known reads.now }
 {
-    let mut i: usize = 0;
-    while i < reads.len() {
-        if 2 < reads[i] {
-            return false;
-        }
-        if reads.len() - i < 2 {
-            return true;
-        }
-        i += 2;
-    }
-    true
-}
-
-// A space before every read but the first.
-fn gap(out: &mut [u8], at: usize, place: usize) -> usize
-    ensures { text out.new result ≡ puts (text out.old at) (gap_text (eqb place 0)) }
-{
-    if place == 0 {
-        at
-    } else {
-        text::byte(out, at, b' ')
-    }
-}
-
-// The script's line, from the start of `out`; answers its length. A byte without its second is no read.
-pub fn line(area: &[u8], reads: &[u8], engine: Engine, out: &mut [u8]) -> usize
-    ensures { text out.new result ≡ puts (text out.old 0) (line_of area.now reads.now) }
-{
-    let mut dec = engines::fresh(engine, area);
-    let mut at: usize = 0;
-    let mut i: usize = 0;
-    while i + 1 < reads.len() {
-        at = gap(out, at, i);
-        let told = step(area, dec, reads[i], reads[i + 1], out, at);
-        dec = told.dec;
-        at = told.at;
-        i += 2;
-    }
-    finish(area, dec, out, at)
+    reads.iter().step_by(2).all(|&kind| kind <= 2)
 }

@@ -1,6 +1,6 @@
--- Any two answers that a contract admits are equal: the two bytes over an area are a function of their state, since the doublings tell how
--- many bytes have come in, and they are what is left of V when the bytes to come are taken off; and a decoder is its area, its two bytes and
--- a proposition.
+-- Any two answers that a contract admits are equal: the two bytes over an area are a function of their state, since the doublings tell
+-- how many bytes have come in, and they are what is left of V when the bytes to come are taken off; and a decoder is its area, its two
+-- bytes and a proposition.
 use mathlib.Core.Path.{◌≡◌, sym, ap, ◌∙◌, subst}
 use mathlib.Core.HLevel.{is_prop→PathP}
 use mathlib.Core.List.{List}

@@ -1,21 +1,16 @@
--- What is left of the script is known where the whole is.
-use Prim.Native.Nat.{suc, ◌+◌}
-use native.Mathlib.Omega.{arith}
-use mathlib.Core.Path.{◌≡◌, sym, ◌∙◌}
-use Rattle.bool_script.proofs.Known.{bad, last_one, none_left, good}
+-- The run of `all`, back to the bytes that it looks at: `judged`.
+use Rattle.std.proofs.Common.{rules}
+use Prim.Native.Nat.{◌*◌}
+use mathlib.Core.Path.{refl, ap, ◌∙◌}
+use Rattle.std.specs.Option.{option_map}
+use Rattle.bool_script.specs.Script.{known}
+use Rattle.bool_script.proofs.Known.{judged}
 use Rattle.bool_script.proofs.kinds_known.Goals as goal
 
-pub returns-then-reads-i-gt2 : goal.returns-then-reads-i-gt2
-returns-then-reads-i-gt2 c = sym (bad _ _ c.loop-i-test.true c.if-reads-i-gt2.true) ∙ c.loop-i.invariant.1
-
-pub returns-then-reads-i-lt2 : goal.returns-then-reads-i-lt2
-returns-then-reads-i-lt2 c = sym (last_one _ _ c.loop-i-test.true c.if-reads-i-lt2.true c.if-reads-i-gt2.false) ∙ c.loop-i.invariant.1
-
-pub loop-i-preserved : goal.loop-i-preserved
-loop-i-preserved c = let l = c.loop-i in
-    let xs = c.args.reads.now in
-    let e : l.i + 2 ≡ suc (suc l.i) = omega arith in
-    (omega arith, rw e (sym (good xs l.i (omega arith) c.if-reads-i-gt2.false) ∙ l.invariant.1))
-
 pub returns : goal.returns
-returns c = sym (none_left _ _ c.loop-i-test.false) ∙ c.loop-i.invariant.1
+returns c = let p = c.all.ensures.runs in
+    let q = c.step_by.ensures.runs p.0 p.0.seen p.1 in
+    let r = c.iter.ensures.runs q.0 q.0.seen in
+    judged q.0.from.rest.now c.all.result p.0.whole p.0.at p.0.len q.0.len (λ a r f h. refl) p.2 r.0 (λ w. r.1 (q.2.0 ∙ w)) q.2.3
+    (λ k l. ap (option_map (λ y. y.now)) (q.2.4 k) ∙ r.2 (k * 2) 0 l) (λ y h. search rules) (λ y h. search rules)
+    ∙ ap known (ap (λ s. s.rest.now) q.1 ∙ c.iter.ensures.rest)

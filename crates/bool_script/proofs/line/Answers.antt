@@ -1,23 +1,14 @@
--- The loop is that of `Turns`; where no whole read is left, the end of the line is what is left of it.
-use Prim.Native.Nat.{◌<◌}
-use native.Mathlib.Omega.{arith}
-use mathlib.Core.Path.{◌∙◌}
-use lib.ListN.{length, drop, length-drop}
-use Rattle.bool_script.proofs.Answers.{begins}
-use Rattle.bool_script.proofs.Turns.{begin, turn, end}
+-- Either engine's fresh decoder stands for the definition's start, from which the line goes.
+use mathlib.Core.Path.{ap, ◌∙◌}
+use Rattle.text.specs.Text.{puts}
+use Rattle.bool_decoder.specs.Model as W
+use Rattle.bool_slow.specs.Slow as S
+use Rattle.bool_script.proofs.Turns.{from_fresh}
 use Rattle.bool_script.proofs.line.Goals as goal
 
-pub loop-i-init : goal.loop-i-init
-loop-i-init c = let a = c.args in
-    begin (begins a.engine a.area.now c.fresh-dec.result c.fresh-dec.ensures)
+pub returns-in-Window : goal.returns-in-Window
+returns-in-Window g c = c.tell_reads.ensures ∙ ap (puts c.args.out.now) (from_fresh (λ d. d.area) W.state_of _ c.new.ensures)
 
-pub loop-i-preserved : goal.loop-i-preserved
-loop-i-preserved c = let s = c.step-told in
-    turn c.loop-i.invariant c.loop-i-test.true c.gap-at.auto.out s.auto.out c.gap-at.ensures
-    s.ensures.leaves s.ensures.at_after
-
-pub returns : goal.returns
-returns c = let reads = c.args.reads.now in
-    let i = c.loop-i.i in
-    let few : length (drop i reads) < 2 = rw (length-drop i reads) (omega (arith, c.loop-i-test.false)) in
-    c.finish.ensures ∙ end c.loop-i.invariant few
+pub returns-in-Slow : goal.returns-in-Slow
+returns-in-Slow g c =
+    c.tell_reads-in-Slow.ensures ∙ ap (puts c.args.out.now) (from_fresh S.area_of S.state_of _ c.init_bool_decoder.ensures)

@@ -1,26 +1,14 @@
--- What the read gave, the position and the bits past the end are the pieces of its text; `leaves` of `Answers` says where the decoder is
--- left.
-use Prim.Native.Nat.{ℕ}
-use mathlib.Core.Path.{◌≡◌, ap}
-use mathlib.Core.List.{[], ◌∷◌, ◌++◌}
-use Rattle.rfc6386.specs.Decoder.{State, Out, position, past}
-use Rattle.bool_decoder.specs.Model.{out}
-use Rattle.text.specs.Template.{ascii, filled}
-use Rattle.text.proofs.Puts.{then, worded}
-use Rattle.bool_script.specs.Line.{value_text, read_text}
-use Rattle.bool_slow.specs.declared.bare.Value.{Value}
+-- What the read gave, or its refusal, then the position and the bits past the end are the pieces of its text.
+use mathlib.Core.Path.{ap, ◌∙◌}
 use Rattle.bool_slow.specs.declared.bare.Shown.{Shown}
-use Rattle.bool_script.proofs.Answers.{given, leaves}
+use Rattle.bool_script.proofs.OneRead.{then_refusal, then_place}
+use Rattle.bool_script.proofs.step.Goals.{in-Err, in_default}
 use Rattle.bool_script.proofs.step.Goals as goal
 
-read_text_lem : (l : ℕ) (o : Out Value) (v : Value) (s : State) (at q : ℕ) → o ≡ out v s → at ≡ position l s → q ≡ past l s
-    → value_text v ++ filled (ascii ",@|+|") (at ∷ q ∷ []) ≡ read_text l o
-unfolding read_text
-read_text_lem l o v s at q e p r = rw (e, p, r)
-
-pub returns : goal.returns
-returns c = let read = given _ _ _ _ _ _ c.read-answer.ensures in record {
-  leaves = leaves read;
-  at_after = worded _ _ _ _ (then _ _ _ _ _ c.tell-told.ensures c.fill-end.ensures)
-      (read_text_lem _ _ _ _ _ _ read.is (ap (λ (s : Shown). s.position) c.shown-seen.ensures) read.past);
-}
+pub returns-clause-told : goal.returns-clause-told
+returns-clause-told g c =
+    then_place _ _ c.args.out.now c.tell_value.ensures.leaves (elim c.match-tell_value.branch [
+      | in-Err w ↦ w.out-is
+          ∙ then_refusal w.in-Err.ensures.told w.byte.ensures w.decimal.ensures (w.from.ensures ∙ w.number.ensures)
+      | in_default w ↦ w.out-is ∙ w.in_default.ensures.told
+    ]) (ap (λ (s : Shown). s.position) c.shown-seen.ensures) (ap (λ (s : Shown). s.past) c.shown-seen.ensures) c.fill.ensures
