@@ -53,10 +53,10 @@ impl Ask {
 }
 
 // What one read gives; nothing where it is refused.
-fn tell_value<D: BareDecoder, const N: usize>(
+fn tell_value<D: BareDecoder, B: Buffer>(
     dec: &mut D,
     ask: Ask,
-    out: &mut Text<N>,
+    out: &mut Text<B>,
 ) -> Result<(), ReadRefusal>
     ensures { Tells D.area D.state (asked ask) dec.old out.old result dec.new out.new }
 {
@@ -69,7 +69,7 @@ fn tell_value<D: BareDecoder, const N: usize>(
 }
 
 // One read, and what the line says of it.
-fn step<D: BareDecoder, const N: usize>(dec: &mut D, ask: Ask, out: &mut Text<N>)
+fn step<D: BareDecoder, B: Buffer>(dec: &mut D, ask: Ask, out: &mut Text<B>)
     ensures leaves { Leaves D.area D.state (asked ask) dec.old dec.new }
     ensures told { out.new ≡ puts out.old
         (read_text (bits (D.area dec.old).now) (answered (D.area dec.old).now (asked ask) (D.state dec.old))) }
@@ -83,7 +83,7 @@ fn step<D: BareDecoder, const N: usize>(dec: &mut D, ask: Ask, out: &mut Text<N>
 }
 
 // What the decoder shows: range, value, count, position and bits past the end.
-fn finish<D: BareDecoder, const N: usize>(dec: &D, out: &mut Text<N>)
+fn finish<D: BareDecoder, B: Buffer>(dec: &D, out: &mut Text<B>)
     ensures { out.new ≡ puts out.old (end_text (bits (D.area dec.now).now) (D.state dec.now)) }
 {
     let seen = dec.shown();
@@ -99,7 +99,7 @@ fn finish<D: BareDecoder, const N: usize>(dec: &D, out: &mut Text<N>)
 }
 
 // The line of the reads from a decoder on, with a space before every read but the first. A byte without its second is no read.
-fn tell_reads<D: BareDecoder + Drop, const N: usize>(mut dec: D, reads: &[u8], out: &mut Text<N>)
+fn tell_reads<D: BareDecoder + Drop, B: Buffer>(mut dec: D, reads: &[u8], out: &mut Text<B>)
     ensures { out.new ≡ puts out.old (line_from (D.area dec).now true reads.now (D.state dec)) }
 {
     for (place, read) in reads.chunks_exact(2).enumerate() {
@@ -112,10 +112,10 @@ fn tell_reads<D: BareDecoder + Drop, const N: usize>(mut dec: D, reads: &[u8], o
 }
 
 // The longest line, of 1,024 reads, has under 26,000 bytes.
-pub type Line = Text<32768>;
+pub type Line = Text<[u8; 32768]>;
 
 // The script's line, by either engine.
-pub fn line<const N: usize>(area: &[u8], reads: &[u8], engine: Engine, out: &mut Text<N>)
+pub fn line<B: Buffer>(area: &[u8], reads: &[u8], engine: Engine, out: &mut Text<B>)
     ensures { out.new ≡ puts out.old (line_of area.now reads.now) }
 {
     match engine {

@@ -9,6 +9,7 @@ ghost use Rattle.vp8_show.specs.Input.{IsFrameIn};
 use lines::Fault;
 use std::io;
 use std::io::Read;
+use text::Text;
 use vp8_records::{Mode, Parser};
 use vp8_show::input;
 use vp8_show::input::Record;
@@ -41,15 +42,17 @@ impl Run {
         Ok(record)
     }
 
-    // A frame, and where its line ends.
-    fn frame(&mut self, bytes: &[u8], out: &mut [u8]) -> usize {
+    // A frame and its line.
+    fn frame(&mut self, bytes: &[u8], out: &mut Text<[u8; 8192]>) {
         if self.looks {
             self.looks = false;
-            return vp8_show::dump::look(out, 0, vp8_parser::peek(bytes));
+            vp8_show::dump::look(out, vp8_parser::peek(bytes));
+        } else {
+            let parsed = vp8_parser::parse_in(self.parser, bytes, self.mode);
+            self.parser = parsed.parser;
+            vp8_show::dump::line(out, parsed);
         }
-        let parsed = vp8_parser::parse_in(self.parser, bytes, self.mode);
-        self.parser = parsed.parser;
-        vp8_show::dump::line(out, 0, parsed)
+        out.byte(b'\n');
     }
 }
 
@@ -57,13 +60,13 @@ impl Run {
 fn records(rt: &impl Print, input: &mut impl Read) -> io::Result<()> {
     let mut run = Run::new();
     let mut buffer = [0u8; 65536];
-    let mut out = [0u8; 8192];
+    let mut out = Text::<[u8; 8192]>::new();
     for _ in 0..u64::MAX {
         match run.next(input, &mut buffer) {
             Ok(Some(Record::Frame(count))) => {
-                let end = run.frame(&buffer[..count], &mut out);
-                let after = text::byte(&mut out, end, b'\n');
-                lines::show(rt, &out, after)?;
+                out.clear();
+                run.frame(&buffer[..count], &mut out);
+                lines::show(rt, out.as_bytes())?;
             }
             Ok(Some(Record::Fresh)) => run.parser = Parser::new(),
             Ok(Some(Record::In(mode))) => run.mode = mode,
