@@ -20,7 +20,8 @@ record Spaces (f : List ℕ) (k at : ℕ) (w : Walk) : Type 0 where
 spaces_last : (f : List ℕ) (at : ℕ) → at ≤ length f → (s : Step) → step_at f at ≡ s → Spaces f 0 at (walk_from 0 f at)
 unfolding Spaced
 spaces_last f at h (Ok None) e = rw (walk_done f at 0 e) (record { spaced = tt; full = λ z. omega (arith, ap refusal_of z) })
-spaces_last f at h (Err r) e = rw (walk_cut f at 0 e) (record { spaced = tt; full = λ z. omega (arith, ap refusal_of z, ap number_of (cut_left f at e).1) })
+spaces_last f at h (Err r) e =
+    rw (walk_cut f at 0 e) (record { spaced = tt; full = λ z. omega (arith, ap refusal_of z, ap number_of (cut_left f at e).1) })
 spaces_last f at h (Ok (Some n)) e = rw (walk_full f at e) (record { spaced = tt; full = λ z. omega (arith, (fits f at h e).0) })
 
 spaces_next : (k : ℕ) (f : List ℕ) (at : ℕ) → at ≤ length f

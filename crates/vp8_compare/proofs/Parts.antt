@@ -24,7 +24,8 @@ pub record Turn {X : Type 0} (eq : X → X → Bool) (a b : List X) (from i : �
 -- what a look into the second run tells of an entry of the first
 met : {X : Type 0} {eq : X → X → Bool} → IsPartialEquivalence eq → (b : List X) (n : ℕ) (x : Bor X) (xs : List X) (r : Option (Bor X))
     → is_some r ≡ ltb n (length b) → IfSome r (λ y. y.now ≡ get_or b n y.now)
-    → apart_by eq n (x.now ∷ xs) (drop n b) ≡ pick (option_eq (λ p q. eq p.now q.now) r (Some x)) (apart_by eq (suc n) xs (drop (suc n) b)) (Some n)
+    → apart_by eq n (x.now ∷ xs) (drop n b)
+    ≡ pick (option_eq (λ p q. eq p.now q.now) r (Some x)) (apart_by eq (suc n) xs (drop (suc n) b)) (Some n)
 unfolding apart_by
 met laws b n x xs None e f = rw (drop_of_length-le b (false-ltb n (length b) e))
 met laws b n x xs (Some y) e f = rw (drop-cons b n y.now (true-ltb n (length b) e), ← f, laws.symm x.now y.now)
@@ -33,7 +34,8 @@ module _ {X : Type 0} {eq : X → X → Bool} (laws : IsPartialEquivalence eq) {
     (t : Turn eq a b from i) (h : i < length a) (here : x.now ≡ get_or a i x.now)
     (some : is_some r ≡ ltb (from + i) (length b)) (there : IfSome r (λ y. y.now ≡ get_or b (from + i) y.now)) where
   look : (e : Bool) → option_eq (λ p q. eq p.now q.now) r (Some x) ≡ e
-      → pick e (apart_by eq (suc (from + i)) (drop (suc i) a) (drop (suc (from + i)) b)) (Some (from + i)) ≡ apart_by eq from a (drop from b)
+      → pick e (apart_by eq (suc (from + i)) (drop (suc i) a) (drop (suc (from + i)) b)) (Some (from + i))
+      ≡ apart_by eq from a (drop from b)
   look e q =
       let now : drop i a ≡ x.now ∷ drop (suc i) a = rw (drop-cons a i x.now h, ← here) in
       rw (← q) (sym (rw now (met laws b (from + i) x (drop (suc i) a) r some there)) ∙ t.same)

@@ -1,5 +1,5 @@
--- A test of each entry of a table with the byte at its place: of equality it is the library's `starts_with`; of any test a loop over both at
--- once, and what holds at its head.
+-- A test of each entry of a table with the byte at its place: of equality it is the library's `starts_with`; of any test a loop over both,
+-- and what holds at its head.
 use Prim.Native.Nat.{ℕ, ◌≤◌}
 use native.Mathlib.Omega.{arith}
 use mathlib.Core.Logic.{◌⊎◌, inl, inr}

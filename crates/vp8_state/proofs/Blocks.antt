@@ -43,7 +43,8 @@ is_block b h =
     let n = eqb-true _ _ t.0 in
     record { size = n; head = t.1; fine = t.2; rest = length-drop 22 b ∙ omega (arith, n) }
   where
-    go : (x y z : Bool) → refusal_of (pick x (pick y (pick z (Ok tt) (Err Fault)) (Err OtherHeading)) (Err OtherSize)) ≡ 0 → (x ≡ true) × (y ≡ true) × (z ≡ true)
+    go : (x y z : Bool) → refusal_of (pick x (pick y (pick z (Ok tt) (Err Fault)) (Err OtherHeading)) (Err OtherSize)) ≡ 0
+        → (x ≡ true) × (y ≡ true) × (z ≡ true)
     go true true true h = (refl, refl, refl)
     go true true false h = absurd (omega (arith, h))
     go true false z h = absurd (omega (arith, h))

@@ -26,7 +26,8 @@ use Rattle.std.proofs.Common.{Result, Ok, Err}
 use Rattle.vp8_state.specs.declared.BlockRefusal.{BlockRefusal}
 use Rattle.vp8_state.specs.declared.BlockRefusal.TheVariants.{OtherSize, OtherHeading, Fault}
 use Rattle.vp8_state.specs.Block.{block, Verdict, refusal_of, block_verdict}
-use Rattle.vp8_state.specs.Handed.{ReadAnswer, or_refused, answered, taken, Left, left, record_of, read_block, write_block, Offer, asked, handed, state_parse}
+use Rattle.vp8_state.specs.Handed.{ReadAnswer, or_refused, answered, read_block, write_block, state_parse}
+use Rattle.vp8_state.specs.Handed.{taken, Left, left, record_of, Offer, asked, handed}
 use Rattle.vp8_state.specs.Handed.{Exported, stop, own, other, the_calls, calls_answers}
 use Rattle.vp8_state.proofs.Laid.{Bytes}
 use Rattle.vp8_state.proofs.Blocks.{is_block, taken_sound, block_taken, record_of_lem, read_back, write_taken}
@@ -175,7 +176,8 @@ exported_over p {xs = xs} {ys} {zs} {rs} {ss} {ts} s a b o h =
 -- on ys. No step is refused, and the answers and the record are those of one process that is asked xs and then ys
 pub handed_over : (p : Parser) {q s t : Parser} {xs ys : List Asked} {rs ss ts : List Parsed} (b d : List ℕ) (v : Verdict) (a : ReadAnswer)
     (r : Result Parser BlockRefusal)
-    → Sound p → Answered Parsed ByValue p xs rs q → length b ≡ 1148 → left v d ≡ write_block q b → a ≡ read_block d → r ≡ answered (read_block d)
+    → Sound p → Answered Parsed ByValue p xs rs q → length b ≡ 1148 → left v d ≡ write_block q b
+    → a ≡ read_block d → r ≡ answered (read_block d)
     → Answered Parsed ByValue a.parser ys ss s → Answered Parsed ByValue p (xs ++ ys) ts t
     → (v ≡ Ok tt) × (a.verdict ≡ Ok tt) × (r ≡ Ok a.parser) × (t ≡ s) × (ts ≡ rs ++ ss)
 handed_over p {q} {xs = xs} {ys} {rs} {ss} {ts} b d v a r z one n w k i two all =

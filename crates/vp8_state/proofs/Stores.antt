@@ -64,7 +64,8 @@ module _ (s b : List ℕ) where
   unfolding state_write write_verdict
   other_block h = rw (ne_eqb (length b) 1148 h) (go (eqb (length s) 1126))
     where
-      go : (x : Bool) → left 13 b ≡ (let v = pick x (Err OtherSize) (Err OtherSize) in left (refusal_of v) (taken v (block (parser_of s)) b))
+      go : (x : Bool)
+          → left 13 b ≡ (let v = pick x (Err OtherSize) (Err OtherSize) in left (refusal_of v) (taken v (block (parser_of s)) b))
       go true = refl
       go false = refl
 

@@ -1,6 +1,7 @@
 -- The parser record as a block of bytes (docs/RULES.md, the block): the definition, from a record to its bytes, and when bytes are
 -- refused as a block, or as a record to be written into one.
-use Rattle.std.specs.Prelude.{ℕ, ◌/◌, ◌%◌, ◌↔◌, ◌≡◌, Bool, true, false, ◌&&◌, List, [], ◌∷◌, ◌++◌, Result, Ok, Err, leb, ltb, eqb, nat_abs, length, replicate, take, drop}
+use Rattle.std.specs.Prelude.{ℕ, ◌/◌, ◌%◌, ◌↔◌, ◌≡◌, Bool, true, false, ◌&&◌, Result, Ok, Err, leb, ltb, eqb, nat_abs}
+use Rattle.std.specs.Prelude.{List, [], ◌∷◌, ◌++◌, length, replicate, take, drop}
 use Rattle.std.proofs.Common.{to_z}
 use Rattle.std.specs.Int.{w8}
 use Rattle.vp8_records.specs.declared.Parser.{Parser}

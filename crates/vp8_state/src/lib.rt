@@ -312,8 +312,8 @@ pub fn vp8_state_write(bytes: &[u8], block: &mut [u8]) -> u32
     refusal_number(write_record(bytes, block))
 }
 
-// For hosts: one call over the record of the caller's block, which then holds the record that the call leaves, refused or not. The mode 0 is
-// the Rust's, any other the standard's. A block that is refused stays as it is, and nothing is called.
+// For hosts: one call over the record of the caller's block, which then holds the record that the call leaves, refused or not. The mode 0
+// is the Rust's, any other the standard's. A block that is refused stays as it is, and nothing is called.
 pub fn vp8_state_parse(mode: u32, block: &mut [u8], frame: &[u8]) -> u32
     ensures { left result block.new ≡ state_parse block.old (record { mode = mode; frame = frame.now }) }
 {

@@ -10,4 +10,5 @@ use Rattle.vp8_compare.proofs.header_apart.Goals as goal
 pub returns : goal.returns
 returns c = let sizes = c.args.h.partition_size in
     let lengths : length sizes ≡ 8 = search rules in
-    then 0 30 _ _ _ (omega (arith, lengths, length-append sizes (quant_of c.args.h.quant_indices))) c.front_apart.ensures c.back_apart.ensures c.or.ensures
+    let thirty = length-append sizes (quant_of c.args.h.quant_indices) in
+    then 0 30 _ _ _ (omega (arith, lengths, thirty)) c.front_apart.ensures c.back_apart.ensures c.or.ensures

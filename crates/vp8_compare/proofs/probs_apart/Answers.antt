@@ -17,5 +17,6 @@ returns c = let coeffs = c.coeffs-coeffs.result in
     let stored = c.args.stored.now in
     let two = then 0 1056 coeffs motion stored (omega (arith, long)) c.first_apart.ensures c.first_apart-2.ensures c.or.ensures in
     let size : 1094 ≡ 0 + length (coeffs ++ motion) = omega (arith, long, short, length-append coeffs motion) in
-    let all = rw append_assoc at (then 0 1094 (coeffs ++ motion) c.modes-modes.result stored size two c.first_apart-3.ensures c.or-2.ensures) in
+    let modes = c.modes-modes.result in
+    let all = rw append_assoc at (then 0 1094 (coeffs ++ motion) modes stored size two c.first_apart-3.ensures c.or-2.ensures) in
     rw (c.coeffs-coeffs.ensures, c.motion-motion.ensures, c.modes-modes.ensures) at all

@@ -18,9 +18,11 @@ returns-then-not-starts_with-clause-verdict c = let head = sym (starts heading c
 pub returns-then-not-faultless-clause-verdict : goal.returns-then-not-faultless-clause-verdict
 unfolding block_verdict heading
 returns-then-not-faultless-clause-verdict c = let head = sym (starts heading c.args.block.now) ∙ sym c.starts_with.ensures.value in
-    rw (eq-eqb _ _ c.if-block-ne-SIZE.false, head ∙ c.if-not-starts_with.false, ← part_to_end c.args.block.now 22, ← c.if-not-faultless.ensures)
+    let size = eq-eqb _ _ c.if-block-ne-SIZE.false in
+    rw (size, head ∙ c.if-not-starts_with.false, ← part_to_end c.args.block.now 22, ← c.if-not-faultless.ensures)
 
 pub returns-clause-verdict : goal.returns-clause-verdict
 unfolding block_verdict heading
 returns-clause-verdict c = let head = sym (starts heading c.args.block.now) ∙ sym c.starts_with.ensures.value in
-    rw (eq-eqb _ _ c.if-block-ne-SIZE.false, head ∙ c.if-not-starts_with.false, ← part_to_end c.args.block.now 22, ← c.if-not-faultless.ensures)
+    let size = eq-eqb _ _ c.if-block-ne-SIZE.false in
+    rw (size, head ∙ c.if-not-starts_with.false, ← part_to_end c.args.block.now 22, ← c.if-not-faultless.ensures)

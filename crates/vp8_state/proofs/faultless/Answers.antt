@@ -10,7 +10,8 @@ pub loop-kind-init : goal.loop-kind-init
 unfolding kinds
 loop-kind-init c = let is = c.into_iter-kind-iterator.ensures.into_iter_gives in
     let zip = c.zip-kind-items.ensures in
-    begin (ap (λ z. z.a.rest.now) is ∙ ap (λ z. z.rest.now) zip.first ∙ c.iter.ensures.rest) (ap (λ z. z.b.rest.now) is ∙ zip.second.0) c.requires
+    begin (ap (λ z. z.a.rest.now) is ∙ ap (λ z. z.rest.now) zip.first ∙ c.iter.ensures.rest)
+    (ap (λ z. z.b.rest.now) is ∙ zip.second.0) c.requires
 
 pub returns-then-not-allows : goal.returns-then-not-allows
 returns-then-not-allows c = let s = c.in-Some.ensures.steps in

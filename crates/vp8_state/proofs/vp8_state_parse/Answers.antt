@@ -16,4 +16,5 @@ pub returns-in-Ok : goal.returns-in-Ok
 returns-in-Ok c = let a = c.args in
     let said = c.parse_in-parsed.ensures ∙ ap (λ (md : Mode). call md c.in-Ok.parser a.frame.now) c.from.ensures in
     let bytes : Bytes a.block.now = λ i. search rules in
-    steps_called a.block.now _ c.read_block.ensures bytes c.in-Ok.is c.parse_in-parsed.result said _ _ c.write_block.ensures _ c.number.ensures
+    steps_called a.block.now _ c.read_block.ensures bytes c.in-Ok.is c.parse_in-parsed.result said _ _
+    c.write_block.ensures _ c.number.ensures
