@@ -51,9 +51,6 @@ module _ {D : Type 0} (area_of : D → Bor (List ℕ)) (state_of : D → State) 
     pub same : puts t (line_from (area_of d₀).now (eqb count 0) left (state_of d))
         ≡ puts t₀ (line_from (area_of d₀).now true reads (state_of d₀))
 
-  pub begin : (d : D) (reads : List ℕ) (t : Text) → Turn d reads t d t reads 0
-  begin d reads t = record { over = refl; same = refl }
-
   module _ {d₀ : D} {reads : List ℕ} {t₀ : Text} {d : D} {t : Text} {left : List ℕ} {n : ℕ} (T : Turn d₀ reads t₀ d t left n) where
     pub turn : (read : List ℕ) {rest : List ℕ} {a : Ask} {t₁ t₂ : Text} {d' : D} → left ≡ read ++ rest → length read ≡ 2
         → t₁ ≡ puts t (gap_text (eqb n 0)) → a ≡ ask_of (get_or read 0 0) (get_or read 1 0) → Leaves area_of state_of a d d'
