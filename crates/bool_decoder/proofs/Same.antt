@@ -5,7 +5,7 @@ use mathlib.Core.Bool.{Bool}
 use mathlib.Core.HLevel.{is_prop→PathP}
 use mathlib.Core.List.{List}
 use denote.Ref.{Bor}
-use lib.Dec.{eqb}
+use lib.Dec.{eqb, lit<}
 use lib.IntN.{ℤ}
 use Prim.Native.Nat.{ℕ, suc, ◌+◌, ◌-◌, ◌*◌, ◌/◌, ◌%◌, ◌^◌, ◌<◌, ◌≤◌}
 use native.Mathlib.Nat.{ℕ_set, lt_of_not-le, le_antisymm, mul_assoc, mul-le-mul_left, pow-suc}
@@ -20,7 +20,7 @@ use Rattle.bool_decoder.specs.Engine as By
 use Rattle.bool_decoder.specs.Window.{rest, limit_of, Over}
 use Rattle.bool_decoder.specs.Window as W
 use Rattle.bool_decoder.specs.Model.{state_of, position_of, past_of, Ran, Passed, Lit, Sgn, Fresh, Seen}
-use Rattle.bool_decoder.specs.Refusal.{number_of}
+use Rattle.bool_decoder.specs.Refusal.{number_of, refused_by}
 use Rattle.bool_decoder.specs.Answer.{Meets, Allows, Refuses, BoolMeets, UintMeets, SintMeets}
 use Rattle.bool_decoder.specs.Quiet.{ReadsAhead, Seeks}
 use Rattle.bool_decoder.proofs.Laws.{window_is}
@@ -161,6 +161,19 @@ named_is TooManyBools = refl
 
 pub same_refusal : {x y : ReadRefusal} → number_of x ≡ number_of y → x ≡ y
 same_refusal {x} {y} e = sym (named_is x) ∙ ap named e ∙ named_is y
+
+-- check_limits
+numbered : (e : ReadRefusal) → 0 < number_of e
+numbered EmptyArea = lit< tt
+numbered AreaTooLong = lit< tt
+numbered TooWide = lit< tt
+numbered TooManyBools = lit< tt
+
+pub same_limits : (r q : Result (Unit {0}) ReadRefusal) → refused_by r ≡ refused_by q → r ≡ q
+same_limits (Ok a) (Ok b) e = refl
+same_limits (Ok a) (Err n) e = absurd (omega (arith, e, numbered n))
+same_limits (Err n) (Ok b) e = absurd (omega (arith, e, numbered n))
+same_limits (Err n) (Err l) e = ap Err (same_refusal e)
 
 -- nothing is both refused and read
 torn : {A X : Type 0} {m : Rd A} {d : BoolDecoder} {w k : ℕ} {a : A} {q : ℕ} {e : BoolDecoder} {n : ℕ}

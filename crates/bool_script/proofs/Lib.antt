@@ -1,4 +1,4 @@
--- OneRead is what a read of a decoder says of its text, Known what the kinds of a script say of the whole.
+-- OneRead is what a read of a decoder says of its text, Turns the loop over them, Known what the kinds of a script say of the whole.
 mod OneRead
 mod Known
 mod Turns

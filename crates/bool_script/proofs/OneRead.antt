@@ -21,7 +21,8 @@ use Rattle.text.proofs.Puts.{one, then, worded}
 use Rattle.bool_script.specs.Script.{Leaves}
 use Rattle.bool_script.specs.Line.{value_text, read_text, Tells}
 
-module _ {D A X : Type 0} (area_of : D → Bor (List ℕ)) (state_of : D → State) (f : A → Value) (m : Rd A) {d d' : D} {w k : ℕ} {t u : Text} where
+module _ {D A X : Type 0} (area_of : D → Bor (List ℕ)) (state_of : D → State) (f : A → Value) (m : Rd A) {d d' : D} {w k : ℕ}
+    {t u : Text} where
   -- a value, by its text
   pub tells_value : {r : Read A} {x : X} {xs : List ℕ} → Meets area_of state_of m d w k (Ok r) d' → u ≡ puts t xs
       → xs ≡ value_text (f r.value)

@@ -48,10 +48,8 @@ module _ {D : Type 0} (area_of : D → Bor (List ℕ)) (state_of : D → State) 
   -- so many reads are told of those from d₀ on, and these are left
   pub record Turn (d₀ : D) (reads : List ℕ) (t₀ : Text) (d : D) (t : Text) (left : List ℕ) (count : ℕ) : Type 0 where
     pub over : area_of d ≡ area_of d₀
-    pub same : puts t (line_from (area_of d₀).now (eqb count 0) left (state_of d)) ≡ puts t₀ (line_from (area_of d₀).now true reads (state_of d₀))
-
-  pub begin : (d : D) (reads : List ℕ) (t : Text) → Turn d reads t d t reads 0
-  begin d reads t = record { over = refl; same = refl }
+    pub same : puts t (line_from (area_of d₀).now (eqb count 0) left (state_of d))
+        ≡ puts t₀ (line_from (area_of d₀).now true reads (state_of d₀))
 
   module _ {d₀ : D} {reads : List ℕ} {t₀ : Text} {d : D} {t : Text} {left : List ℕ} {n : ℕ} (T : Turn d₀ reads t₀ d t left n) where
     pub turn : (read : List ℕ) {rest : List ℕ} {a : Ask} {t₁ t₂ : Text} {d' : D} → left ≡ read ++ rest → length read ≡ 2

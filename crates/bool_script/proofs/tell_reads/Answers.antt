@@ -19,4 +19,4 @@ loop-place-preserved g c =
 pub returns : goal.returns
 returns g c =
     let i = c.loop-place.invariant in
-    c.finish.ensures ∙ end _ _ i.1 (rw i.0 at c.in-None.ensures.steps.0.1.0)
+    rw c.finish.ensures (end _ _ i.1 (rw i.0 at c.in-None.ensures.steps.0.1.0))

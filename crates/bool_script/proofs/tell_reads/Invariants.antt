@@ -4,4 +4,5 @@ use Rattle.bool_script.proofs.tell_reads.Given as goal
 
 abbrev pub invariant-loop-place : goal.invariant-loop-place
 invariant-loop-place g l = (l.place-iterator.iter.size ≡ 2)
-    × Turn g.D.BareDecoder.area g.D.BareDecoder.state l.fn.dec l.reads l.initial.out l.dec l.out l.place-iterator.iter.rest.now l.place-iterator.count
+    × Turn g.D.BareDecoder.area g.D.BareDecoder.state l.fn.dec l.reads l.initial.out l.dec l.out
+    l.place-iterator.iter.rest.now l.place-iterator.count

@@ -12,12 +12,18 @@ loop-d-init c = let p = c.args.prob in
     let g = good c.args.self.now c.requires in
     let byte = c.ranges.prob.fits in
     begin g
-    (elim c.if-bit.branch [ then-bit w ↦ picked_one g p byte refl (le-leb _ _ w.if-bit.true) w.d-is | else-bit w ↦ picked_zero g p byte refl (lt-leb _ _ w.if-bit.false) w.d-is ])
+    (elim c.if-bit.branch [
+      | then-bit w ↦ picked_one g p byte refl (le-leb _ _ w.if-bit.true) w.d-is
+      | else-bit w ↦ picked_zero g p byte refl (lt-leb _ _ w.if-bit.false) w.d-is
+    ])
 
 pub returns : goal.returns
 returns c = let p = c.args.prob in
     let g = good c.args.self.now c.requires in
     let byte = c.ranges.prob.fits in
     holder refl (ended g
-    (elim c.if-bit.branch [ then-bit w ↦ picked_one g p byte refl (le-leb _ _ w.if-bit.true) w.d-is | else-bit w ↦ picked_zero g p byte refl (lt-leb _ _ w.if-bit.false) w.d-is ])
+    (elim c.if-bit.branch [
+      | then-bit w ↦ picked_one g p byte refl (le-leb _ _ w.if-bit.true) w.d-is
+      | else-bit w ↦ picked_zero g p byte refl (lt-leb _ _ w.if-bit.false) w.d-is
+    ])
     c.loop-d.invariant c.loop-d-test.false)
