@@ -1,4 +1,4 @@
-// Text in a buffer of fixed size, its own or a lent one: bytes, two hexadecimal digits a byte, decimal numbers, templates. No input, no output.
+// Text in a buffer of fixed size, its own or a lent one: bytes, two hexadecimal digits a byte, numbers, templates. No input, no output.
 // Each writer puts its bytes after those that are there, as far as the buffer goes. No public function has a premise.
 #![tactic(auto)]
 
