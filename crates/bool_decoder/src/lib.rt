@@ -1,5 +1,6 @@
 // The boolean decoder of bool_decoder.rs: bools, literals, signed literals, position and snapshot; and beyond it the bits past the end.
 // Inner reads ask for room for the bools; the public ones test the limits first, and refuse. Their answers carry the bits past the end too.
+// The inner reads are marked to be inlined: a decoder that no call is handed a pointer to stays in registers.
 #![tactic(auto)]
 
 ghost use Rattle.std.specs.Prelude.{◌≡◌, ◌+◌, ◌-◌, ◌*◌, ◌^◌, ◌<◌, ◌≤◌};
@@ -201,6 +202,7 @@ impl<'a> BoolDecoder<'a> {
     }
 
     // A bool at the chance probability / 256 of a 0: section 7.2.
+    #[inline(always)]
     pub fn read_bit(&mut self, probability: u8) -> bool
         requires { Room self.old 1 }
         ensures { Ran (bool probability) self.old result self.new 1 }
@@ -241,6 +243,7 @@ impl<'a> BoolDecoder<'a> {
 
     // A bool at even chances: it doubles once, or not at all. The limit is made of the window each time, so that several in a row make it
     // once.
+    #[inline(always)]
     pub fn read_flag(&mut self) -> bool
         requires { Room self.old 1 }
         ensures { Ran flag self.old result self.new 1 }
@@ -277,18 +280,23 @@ impl<'a> BoolDecoder<'a> {
     }
 
     // nbits bools at even chances, the high bit first.
+    #[inline(always)]
     pub fn read_literal(&mut self, nbits: u32) -> u32
         requires { (nbits ≤ 31) × Room self.old nbits }
         ensures { Lit nbits self.old result self.new }
     {
+        // A copy that nothing points to, so that the loop keeps it in registers.
+        let mut local = *self;
         let mut value: u32 = 0;
         for _ in 0..nbits {
-            value = value * 2 + digit(self.read_flag());
+            value = value * 2 + digit(local.read_flag());
         }
+        *self = local;
         value
     }
 
     // A magnitude of nbits bools, then a sign.
+    #[inline(always)]
     pub fn read_signed(&mut self, nbits: u32) -> i32
         requires { (nbits ≤ 31) × Room self.old (nbits + 1) }
         ensures { Sgn nbits self.old result self.new }

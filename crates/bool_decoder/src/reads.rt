@@ -9,6 +9,7 @@ use crate::BoolDecoder;
 
 impl BoolDecoder<'_> {
     // A flag where `on` is set, false where it isn't.
+    #[inline(always)]
     pub fn flag_if(&mut self, on: bool) -> bool
         requires { Room self.old 1 }
         ensures { Ran (when on flag false) self.old result self.new 1 }
@@ -17,6 +18,7 @@ impl BoolDecoder<'_> {
     }
 
     // A literal that fits a byte: RFC 6386 section 8, L(n).
+    #[inline(always)]
     pub fn read_byte(&mut self, nbits: u32) -> u8
         requires { (nbits ≤ 8) × Room self.old nbits }
         ensures { Lit nbits self.old result self.new }
@@ -25,6 +27,7 @@ impl BoolDecoder<'_> {
     }
 
     // The same where `on` is set, 0 where it isn't.
+    #[inline(always)]
     pub fn byte_if(&mut self, on: bool, nbits: u32) -> u8
         requires { (nbits ≤ 8) × Room self.old nbits }
         ensures { Ran (when on (lit nbits) 0) self.old result self.new nbits }
@@ -33,6 +36,7 @@ impl BoolDecoder<'_> {
     }
 
     // A magnitude and a sign where their flag is set, `other` where it isn't.
+    #[inline(always)]
     pub fn sint_or(&mut self, nbits: u32, other: i8) -> i8
         requires { (nbits ≤ 7) × Room self.old (nbits + 2) }
         ensures { Ran (or_else (sint nbits) other) self.old result self.new (nbits + 2) }
@@ -45,6 +49,7 @@ impl BoolDecoder<'_> {
     }
 
     // A byte where its bool, at the chance p, is set, `other` where it isn't.
+    #[inline(always)]
     pub fn byte_or(&mut self, p: u8, other: u8) -> u8
         requires { Room self.old 9 }
         ensures { Ran (make (λ u. or u other) (maybe p (lit 8))) self.old result self.new 9 }

@@ -15,6 +15,7 @@ fn step(low: u32, p: u8) -> u32
 
 impl BoolDecoder<'_> {
     // Zeros that the limit tells, four at a time: the range falls, so the last of them tells for all.
+    #[inline(always)]
     fn fours(&mut self, table: &[u8], from: usize, end: usize) -> usize
         requires { ReadsAhead table.now from end self.old }
         ensures { Skips table.now from end self.old result self.new }
@@ -40,6 +41,7 @@ impl BoolDecoder<'_> {
     }
 
     // The same one at a time.
+    #[inline(always)]
     fn singles(&mut self, table: &[u8], from: usize, end: usize) -> usize
         requires { ReadsAhead table.now from end self.old }
         ensures { Skips table.now from end self.old result self.new }
@@ -61,6 +63,7 @@ impl BoolDecoder<'_> {
     }
 
     // All of them, up to the first that needs the window.
+    #[inline(always)]
     fn pass(&mut self, table: &[u8], from: usize, end: usize) -> usize
         requires { ReadsAhead table.now from end self.old }
         ensures { Skips table.now from end self.old result self.new }
@@ -70,6 +73,7 @@ impl BoolDecoder<'_> {
     }
 
     // Reads up to the first entry of the table from `from` on whose bool is set, and gives that entry; or all, and gives `end`.
+    #[inline(always)]
     pub fn seek(&mut self, table: &[u8], from: usize, end: usize) -> usize
         requires { ReadsAhead table.now from end self.old }
         ensures { Seeks table.now from end self.old result self.new }

@@ -8,6 +8,7 @@ ghost use Rattle.vp8_fields.specs.Rows.{onto};
 use bool_decoder::BoolDecoder;
 
 // Signed numbers, each kept where its flag is clear.
+#[inline(always)]
 pub fn sints_or<const N: usize>(dec: &mut BoolDecoder, nbits: u32, old: [i8; N]) -> [i8; N]
     requires { (nbits ≤ 7) × Room dec.old ((nbits + 2) * N) }
     ensures { Ran (onto old.entry (times N (maybe 128 (sint nbits)))) dec.old result dec.new ((nbits + 2) * N) }
@@ -20,6 +21,7 @@ pub fn sints_or<const N: usize>(dec: &mut BoolDecoder, nbits: u32, old: [i8; N])
 }
 
 // Bytes, each kept where its flag is clear.
+#[inline(always)]
 pub fn bytes_or<const N: usize>(dec: &mut BoolDecoder, old: [u8; N]) -> [u8; N]
     requires { Room dec.old (9 * N) }
     ensures { Ran (onto old.entry (times N (maybe 128 (lit 8)))) dec.old result dec.new (9 * N) }
@@ -32,6 +34,7 @@ pub fn bytes_or<const N: usize>(dec: &mut BoolDecoder, old: [u8; N]) -> [u8; N]
 }
 
 // Literals of 8 bools.
+#[inline(always)]
 fn bytes<const N: usize>(dec: &mut BoolDecoder, old: [u8; N]) -> [u8; N]
     requires { Room dec.old (8 * N) }
     ensures { Ran (onto old.entry (times N (make some (lit 8)))) dec.old result dec.new (8 * N) }
@@ -44,6 +47,7 @@ fn bytes<const N: usize>(dec: &mut BoolDecoder, old: [u8; N]) -> [u8; N]
 }
 
 // The same where `on` is set, as they were where it isn't.
+#[inline(always)]
 pub fn bytes_if<const N: usize>(dec: &mut BoolDecoder, on: bool, old: [u8; N]) -> [u8; N]
     requires { Room dec.old (8 * N) }
     ensures { Ran (onto old.entry (when on (times N (make some (lit 8))) [])) dec.old result dec.new (8 * N) }
