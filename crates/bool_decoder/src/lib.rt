@@ -1,5 +1,6 @@
 // The boolean decoder of bool_decoder.rs: bools, literals, signed literals, position and snapshot; and beyond it the bits past the end.
 // Inner reads ask for room for the bools; the public ones test the limits first, and refuse. Their answers carry the bits past the end too.
+// The inner reads are marked to be inlined: a decoder that no call is handed a pointer to stays in registers.
 #![tactic(auto)]
 
 ghost use Rattle.std.specs.Prelude.{◌≡◌, ◌+◌, ◌-◌, ◌*◌, ◌^◌, ◌<◌, ◌≤◌};
@@ -285,10 +286,13 @@ impl<'a> BoolDecoder<'a> {
         requires { (nbits ≤ 31) × Room self.old nbits }
         ensures { Lit nbits self.old result self.new }
     {
+        // A copy that nothing points to, so that the loop keeps it in registers.
+        let mut local = *self;
         let mut value: u32 = 0;
         for _ in 0..nbits {
-            value = value * 2 + digit(self.read_flag());
+            value = value * 2 + digit(local.read_flag());
         }
+        *self = local;
         value
     }
 

@@ -14,13 +14,19 @@ pub fn parse_token_prob_update(dec: &mut BoolDecoder, coeff_probs: CoeffProbs) -
 {
     let mut out = coeff_probs;
     let table = vp8_probs::coeff_update_probs();
+    // A copy that nothing points to, so that the loop keeps it in registers.
+    let mut local = *dec;
     let mut i = 0;
     while i < 1056 {
-        i = dec.seek(&table, i, 1056);
+        i = local.seek(&table, i, 1056);
         if i < 1056 {
-            out.v[i] = dec.read_byte(8);
+            out.v[i] = local.read_byte(8);
             i += 1;
         }
     }
-    dec.with_past(out)
+    *dec = local;
+    Read {
+        value: out,
+        past: dec.past(),
+    }
 }

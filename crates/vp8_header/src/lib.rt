@@ -269,12 +269,12 @@ fn parse_third(dec: &mut BoolDecoder, key: bool, parser: Parser) -> Third
     requires { Room dec.old 9899 }
     ensures { Ran (make (third_of (probs_of parser)) (third key)) dec.old result dec.new 9899 }
 {
-    let coeff_prob = parse_token_prob_update(dec, parser.coeff_prob).value;
+    let tokens = parse_token_prob_update(dec, parser.coeff_prob);
     let mb_no_coeff_skip = dec.read_flag();
     let prob_skip_false = dec.byte_if(mb_no_coeff_skip, 8);
     let inter = parse_inter_if(dec, !key, parser.mode_probs, parser.mv_prob);
     Third {
-        coeff_prob,
+        coeff_prob: tokens.value,
         mb_no_coeff_skip,
         prob_skip_false,
         inter,

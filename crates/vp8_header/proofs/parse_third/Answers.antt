@@ -8,7 +8,7 @@ use Rattle.vp8_header.proofs.parse_third.Goals as goal
 
 pub returns : goal.returns
 unfolding third third_of
-returns c = let t = made c.parse_token_prob_update.ensures.ran in
+returns c = let t = made c.parse_token_prob_update-tokens.ensures.ran in
     let n = made c.parse_inter_if-inter.ensures in
     worth (λ i. record {
       coeff_prob = sym t.is i;

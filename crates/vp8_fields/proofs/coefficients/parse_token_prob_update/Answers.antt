@@ -62,7 +62,7 @@ returns c =
     let long : length c.args.coeff_probs.v ≡ 1056 = search rules in
     let inv = c.loop-i.invariant in
     let wrap : List ℕ → CoeffProbs = λ v. record { v = v } in
-    passed c.with_past.ensures.value c.with_past.ensures.past
+    passed refl c.past.ensures
     (holder inv.area
     (same (leaf wrap _ coded coeff_update 0 1056 (λ i x. ap (λ (k : ℕ). flagged coeff_update k x) (sym (zero-add i))) _ long (omega arith))
     (makes wrap (end _ inv.turn long c.loop-i-test.false))))

@@ -8,8 +8,8 @@ use Rattle.vp8_fields.proofs.coefficients.parse_token_prob_update.Given as goal
 
 abbrev pub invariant-loop-i : goal.invariant-loop-i
 invariant-loop-i l = record {
-  turn : Turn window (flagged coeff_update) l.fn.dec.area.now 9 l.fn.dec.window l.fn.coeff_probs.v l.out.v l.dec.window l.i;
-  area : l.dec.area ≡ l.fn.dec.area;
+  turn : Turn window (flagged coeff_update) l.fn.dec.area.now 9 l.fn.dec.window l.fn.coeff_probs.v l.out.v l.local.window l.i;
+  area : l.local.area ≡ l.fn.dec.area;
 }
 
 abbrev pub decreases-loop-i : goal.decreases-loop-i
