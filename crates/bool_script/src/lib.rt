@@ -16,7 +16,7 @@ ghost use Rattle.bool_script.specs.Line.{Tells, read_text, end_text, line_from, 
 use bool_decoder::{BoolDecoder, ReadRefusal};
 use bool_slow::SlowDecoder;
 use bool_slow::bare::BareDecoder;
-use text::Text;
+use text::{Buffer, Text};
 
 // Which engine.
 #[derive(Clone, Copy, PartialEq, Eq, Debug)]

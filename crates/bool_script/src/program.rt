@@ -20,7 +20,7 @@ fn scripts(rt: &impl Print, input: &mut impl Read, engine: Engine) -> io::Result
                     &mut out,
                 );
                 out.byte(b'\n');
-                lines::show(rt, &out)?;
+                lines::show(rt, out.as_bytes())?;
             }
             Ok(None) => return Ok(()),
             Err(fault) => return rt.println(fault),

@@ -9,6 +9,7 @@ ghost use Rattle.vp8_compare.specs.Apart.{apart_by, apart};
 ghost use Rattle.vp8_compare.specs.Found.{back_numbers, header_numbers, prob_bytes};
 ghost use Rattle.vp8_compare.specs.Found.{header_found, answer_found, found_of};
 
+use std::fmt;
 use vp8_records::{Header, Parsed, Parser};
 
 // What differs, in the order in which a list has an answer.
@@ -24,6 +25,19 @@ pub enum Difference {
     Probability(usize),
     // A kept number, by its place.
     Kept(usize),
+}
+
+// In words; numbers and probabilities are counted from 0.
+impl fmt::Display for Difference {
+    fn fmt<W: fmt::Write>(&self, f: &mut fmt::Formatter<W>) -> fmt::Result {
+        match self {
+            Difference::Refusal => write!(f, "the refusal"),
+            Difference::Carried => write!(f, "what the refusal carries"),
+            Difference::Number(n) => write!(f, "header number {n}"),
+            Difference::Probability(n) => write!(f, "header probability {n}"),
+            Difference::Kept(n) => write!(f, "kept number {n}"),
+        }
+    }
 }
 
 // The first place where `a` differs from what `b` holds from `from` on, counted as `b` counts.

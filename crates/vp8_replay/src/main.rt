@@ -8,7 +8,7 @@ mod list;
 use lines::CutShort;
 use std::fmt;
 use std::io::Read;
-use vp8_compare::{Found, Place};
+use vp8_compare::Difference;
 use vp8_records::{Mode, Parser};
 use vp8_show::input;
 
@@ -75,23 +75,6 @@ impl From<CutShort> for Fault {
     }
 }
 
-// A difference in words. Numbers and probabilities are counted from 0.
-#[derive(Clone, Copy)]
-struct Words(Found);
-
-impl fmt::Display for Words {
-    fn fmt<W: fmt::Write>(&self, f: &mut fmt::Formatter<W>) -> fmt::Result {
-        match self.0 {
-            Found::Same => Ok(()),
-            Found::Refusal => write!(f, "the refusal"),
-            Found::Carried => write!(f, "what the refusal carries"),
-            Found::Number(n) => write!(f, "header number {n}"),
-            Found::Probability(n) => write!(f, "header probability {n}"),
-            Found::Kept(n) => write!(f, "kept number {n}"),
-        }
-    }
-}
-
 // What has been replayed. Frames are counted in all and within the sequence.
 #[derive(Clone, Copy, Default)]
 struct Tally {
@@ -115,17 +98,16 @@ impl fmt::Display for Tally {
 
 impl Tally {
     // A frame, and what differs. Only the first twenty are told; sequences and frames are counted from 1.
-    fn judge(&mut self, rt: &impl Print, case: u32, found: Found) {
+    fn judge(&mut self, rt: &impl Print, case: u32, found: Option<Difference>) {
         self.frames = self.frames.wrapping_add(1);
         self.within = self.within.wrapping_add(1);
-        if let Found::Same = found {
+        let Some(difference) = found else {
             return;
-        }
+        };
         if self.apart < 20 {
             let sequence = self.sequences;
             let frame = self.within;
-            let words = Words(found);
-            let _ = println!(rt; "apart: sequence {sequence} frame {frame} case {case}: {words}");
+            let _ = println!(rt; "apart: sequence {sequence} frame {frame} case {case}: {difference}");
         }
         self.apart = self.apart.wrapping_add(1);
     }
@@ -225,7 +207,7 @@ fn run(rt: &impl Print, input: &mut impl Read) -> Result<Tally, Fault> {
     }
     let mut fresh = [0u8; 1126];
     lines::take_exact(input, &mut fresh, 1126)?;
-    if let Place::At(i) = vp8_compare::fresh_apart(&fresh) {
+    if let Some(i) = vp8_compare::fresh_apart(&fresh) {
         return Err(Fault::Fresh(i));
     }
     let mut replay = Replay::new(fresh);
