@@ -128,7 +128,8 @@ module _ (m b e x v w : ℕ) (H : Holds m b e x v w) (bx : x < b) where
         );
     zeros =
         ended (w - s * 2 ^ m) e (w / 2 ^ e - s * 2 ^ (m - e))
-        (rw (multiple s m e le) (ap (λ (i : ℕ). i - s * 2 ^ (m - e) * 2 ^ e) (ends w e H.zeros) ∙ diff (2 ^ e) (w / 2 ^ e) (s * 2 ^ (m - e))));
+        (rw (multiple s m e le)
+        (ap (λ (i : ℕ). i - s * 2 ^ (m - e) * 2 ^ e) (ends w e H.zeros) ∙ diff (2 ^ e) (w / 2 ^ e) (s * 2 ^ (m - e))));
     small = omega (arith, H.small);
   }
 

@@ -12,7 +12,6 @@ pub mod Made
 pub mod Quiet
 pub mod Signs
 pub mod Literal
-pub mod Limits
 pub mod Same
 pub mod Sequence
 pub mod Split

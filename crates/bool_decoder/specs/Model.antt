@@ -1,5 +1,5 @@
--- What the decoder's contracts say. A decoder holds its area and a window over it, so what is said of it needs no area beside it; the decoders
--- over one area are an engine, and the contracts are those of `Engine`.
+-- What the decoder's contracts say. A decoder holds its area and a window over it, so what is said of it needs no area beside it; the
+-- decoders over one area are an engine, and the contracts are those of `Engine`.
 use Rattle.std.specs.Prelude.{ℕ, ◌+◌, ◌≤◌, ◌≡◌, List, ℤ}
 use Rattle.std.specs.Borrow.{Bor}
 use Rattle.rfc6386.specs.Decoder.{bits, State, whole, count_of, position}

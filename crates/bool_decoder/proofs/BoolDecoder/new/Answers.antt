@@ -1,5 +1,6 @@
 -- The loop's invariant: the bytes passed, as one number, and the rest of the area make the area's number.
 use Prim.Native.Nat.{◌+◌}
+use mathlib.Core.Path.{◌≡◌}
 use native.Mathlib.Omega.{arith}
 use native.Mathlib.Nat.{pow-le-pow_right}
 use lib.Dec.{lit<}
@@ -30,10 +31,12 @@ loop-at-preserved c = let a = c.args.area.now in
 pub invariant_of-result : goal.invariant_of-result
 invariant_of-result c = let p = c.loop-at in
     let bytes = c.type_inv.area in
-    let f = fresh c.args.area.now p.value p.at (omega (arith, p.auto.at-end)) p.invariant.1 p.invariant.2 (λ i. (bytes i).fits) c.limit_of.ensures in
+    let end : p.at ≡ 8 = omega (arith, p.auto.at-end) in
+    let f = fresh c.args.area.now p.value p.at end p.invariant.1 p.invariant.2 (λ i. (bytes i).fits) c.limit_of.ensures in
     record { over = f.over }
 
 pub returns : goal.returns
 returns c = let p = c.loop-at in
     let bytes = c.type_inv.area in
-    begins (fresh c.args.area.now p.value p.at (omega (arith, p.auto.at-end)) p.invariant.1 p.invariant.2 (λ i. (bytes i).fits) c.limit_of.ensures)
+    let end : p.at ≡ 8 = omega (arith, p.auto.at-end) in
+    begins (fresh c.args.area.now p.value p.at end p.invariant.1 p.invariant.2 (λ i. (bytes i).fits) c.limit_of.ensures)

@@ -26,8 +26,8 @@ pub returns-then-big-old : goal.returns-then-big-old
 unfolding flag
 returns-then-big-old c = let s = c.half_of-split.ensures in
     let chosen = chosen_one c.args.self.now.over 128 s.0 (omega (arith, s.3)) c.bigsplit-big.ensures c.if-big-old.true in
-    holder refl (doubled (good c.args.self.now c.requires) chosen 1 (omega (arith, s.3)) (omega (arith, s.4)) (lit≤ tt) refl c.limit_of.ensures
-    c.fill-value.ensures)
+    holder refl (doubled (good c.args.self.now c.requires) chosen 1 (omega (arith, s.3)) (omega (arith, s.4)) (lit≤ tt) refl
+    c.limit_of.ensures c.fill-value.ensures)
 
 pub returns-then-split-ge128 : goal.returns-then-split-ge128
 unfolding flag
@@ -48,5 +48,5 @@ pub returns-else-split-ge128 : goal.returns-else-split-ge128
 unfolding flag
 returns-else-split-ge128 c = let s = c.half_of-split.ensures in
     let chosen = chosen_zero c.args.self.now.over 128 s.0 (omega (arith, s.3)) c.bigsplit-big.ensures c.if-big-old.false in
-    holder refl (doubled (good c.args.self.now c.requires) chosen 1 (omega (arith, s.1)) (omega (arith, c.if-split-ge128.false)) (lit≤ tt) refl
-    c.limit_of-else-split-ge128.ensures c.fill-value-else-split-ge128.ensures)
+    holder refl (doubled (good c.args.self.now c.requires) chosen 1 (omega (arith, s.1)) (omega (arith, c.if-split-ge128.false))
+    (lit≤ tt) refl c.limit_of-else-split-ge128.ensures c.fill-value-else-split-ge128.ensures)
