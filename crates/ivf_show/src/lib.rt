@@ -2,7 +2,7 @@
 // the lines of each frame with its index in front, and at the end the refusal, if there is one.
 #![tactic(auto)]
 
-ghost use Rattle.std.specs.Prelude.{◌≡◌, ◌≤◌, length, take};
+ghost use Rattle.std.specs.Prelude.{◌≡◌};
 ghost use Rattle.rfc6386.specs.Call.{after};
 ghost use Rattle.ivf.specs.Walk.{bytes_of};
 ghost use Rattle.ivf.specs.Listed.{places_of};
@@ -11,22 +11,19 @@ ghost use Rattle.vp8_recording.specs.Plays.{all_in};
 use ivf::WalkRefusal;
 use vp8_records::{Mode, Parser};
 
-// The first `count` listed frames, each to the parser that the one before left, and its lines; the parser after all of them.
+// The frames that both lists name, each to the parser that the one before left, and its lines; the parser after all of them.
 fn tell_frames(
     rt: &impl Print,
     parser: Parser,
     file: &[u8],
     offsets: &[u64],
     lengths: &[u32],
-    count: usize,
     mode: Mode,
 ) -> Parser
-    requires { (count ≤ length offsets.now) × (count ≤ length lengths.now) }
-    ensures { result ≡ after parser (all_in mode
-        (bytes_of file.now (places_of (take count offsets.now) (take count lengths.now)))) }
+    ensures { result ≡ after parser (all_in mode (bytes_of file.now (places_of offsets.now lengths.now))) }
 {
     let mut state = parser;
-    for i in 0..count {
+    for i in 0..offsets.len().min(lengths.len()) {
         let bytes = vp8_recording::frame_at(file, offsets[i], lengths[i]);
         let answer = vp8_parser::parse_in(state, bytes, mode);
         vp8_show::print::tell_numbered(rt, i as u64, answer);
@@ -49,7 +46,14 @@ fn tell_file(rt: &impl Print, file: &[u8], mode: Mode) {
     let mut lengths = [0u32; 5458];
     let walked = ivf::walk(file, &mut offsets, &mut lengths);
     let count = walked.count;
-    tell_frames(rt, Parser::new(), file, &offsets, &lengths, count, mode);
+    tell_frames(
+        rt,
+        Parser::new(),
+        file,
+        &offsets[..count],
+        &lengths[..count],
+        mode,
+    );
     tell_refusal(rt, walked.ended);
 }
 

@@ -107,7 +107,9 @@ impl Tally {
         if self.apart < 20 {
             let sequence = self.sequences;
             let frame = self.within;
-            let _ = println!(rt; "apart: sequence {sequence} frame {frame} case {case}: {difference}");
+            let _ = println!(rt;
+                "apart: sequence {sequence} frame {frame} case {case}: {difference}"
+            );
         }
         self.apart = self.apart.wrapping_add(1);
     }
