@@ -156,7 +156,7 @@ fn put(block: &mut [u8], at: usize, bytes: &[u8])
 fn front(s: Segmentation, a: MbLfAdjustments) -> [u8; 25]
     ensures { result ≡ segmentation_bytes s ++ adjustment_bytes a }
 {
-    let mut out = Text::<25>::new();
+    let mut out = Text::<[u8; 25]>::new();
     vp8_flat::put_segmentation(&mut out, s);
     vp8_flat::put_adjustments(&mut out, a);
     out.into_buffer()
