@@ -11,6 +11,7 @@ use bool_decoder::{BoolDecoder, Read};
 use vp8_records::MbLfAdjustments;
 
 // Four deltas where `on` is set, as they were where it isn't.
+#[inline(always)]
 fn deltas_if(dec: &mut BoolDecoder, on: bool, old: [i8; 4]) -> [i8; 4]
     requires { Room dec.old 32 }
     ensures { Ran (onto old (when on (times 4 (maybe 128 (sint 6))) [])) dec.old result dec.new 32 }
