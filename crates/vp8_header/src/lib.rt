@@ -406,6 +406,7 @@ fn header_of(
 }
 
 // The whole header over the bytes that the decoder may read (RFC 6386 section 19.2), and the state that it leaves.
+#[inline(always)]
 pub fn parse_frame_header(area: &[u8], parser: Parser, chunk: DataChunk, mode: Mode) -> Headed
     ensures { result ≡ headed_of mode (chunk_of chunk) area.now parser }
 {

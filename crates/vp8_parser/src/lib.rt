@@ -180,6 +180,7 @@ fn held(mode: Mode, first: u32, area: &[u8]) -> &[u8]
 }
 
 // A frame of whose area some bytes are held, over the state that it starts from.
+#[inline(always)]
 fn parse_area(parser: Parser, area: &[u8], held: &[u8], chunk: DataChunk, mode: Mode) -> Parsed
     requires { length area.now < 2 ^ 28 }
     ensures { result ≡ sized_of mode (chunk_of chunk) area.now held.now parser }
@@ -202,6 +203,7 @@ fn parse_area(parser: Parser, area: &[u8], held: &[u8], chunk: DataChunk, mode: 
 }
 
 // What follows the chunk.
+#[inline(always)]
 fn parse_body(parser: Parser, bytes: &[u8], chunk: DataChunk, mode: Mode) -> Parsed
     requires { length bytes.now < 2 ^ 28 }
     ensures { result ≡ finish (follows (chunk_of chunk) (body mode (chunk_of chunk) bytes.now)) parser }
@@ -221,6 +223,7 @@ fn parse_body(parser: Parser, bytes: &[u8], chunk: DataChunk, mode: Mode) -> Par
 }
 
 // One call: every slice gets an answer, which is the definition's in that mode (RFC 6386 section 9).
+#[inline(always)]
 pub fn parse_in(parser: Parser, bytes: &[u8], mode: Mode) -> Parsed
     ensures { result ≡ call mode parser bytes.now }
 {

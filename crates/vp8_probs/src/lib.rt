@@ -10,5 +10,5 @@ pub mod tables;
 pub fn coeff_update_probs() -> [u8; 1056]
     ensures { (result ≡ coeff_update) × ((n : ℕ) → n < 1056 → 0 < get_or result n 0) }
 {
-    tables::COEFF_UPDATE_PROBS
+    *&tables::COEFF_UPDATE_PROBS
 }

@@ -403,7 +403,7 @@ impl CoeffProbs {
         ensures { result ≡ fresh_coeffs }
     {
         CoeffProbs {
-            v: tables::COEFF_DEFAULT_PROBS,
+            v: *&tables::COEFF_DEFAULT_PROBS,
         }
     }
 
