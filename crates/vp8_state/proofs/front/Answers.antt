@@ -20,7 +20,7 @@ returns c =
     let frames : length a.ref_frame_delta ≡ 4 = search rules in
     let modes : length a.mb_mode_delta ≡ 4 = search rules in
     simp (length-append, length-map) (omega arith) in
-    c.into_buffer.ensures
+    c.into_buffer.ensures.bytes
     ∙ full _ _ 25 _ c.new-out.ensures
     (c.put_adjustments.ensures ∙ ap (λ (t : Text). puts t (adjustment_bytes c.args.a)) c.put_segmentation.ensures
     ∙ sym (puts_append _ (segmentation_bytes c.args.s) _)) sizes
