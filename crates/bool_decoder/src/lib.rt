@@ -129,7 +129,7 @@ fn fill(area: &[u8], value: u64, doublings: u32, shift: u32) -> u64
     moved + (byte << (free - 8))
 }
 
-// The number of a bit.
+// The number of a bit; by hand, since the definition has `bit`.
 fn digit(b: bool) -> u32
     ensures { result ≡ bit b }
 {

@@ -24,6 +24,7 @@ impl BoolDecoder<'_> {
         let bound = self.window.limit - 1;
         let mut low = self.window.range - 1;
         let mut i = from;
+        // By index, four at a step: the place where it stops is the answer.
         while i < stop {
             let a = step(low, table[i]);
             let b = step(a, table[i + 1]);
@@ -49,6 +50,7 @@ impl BoolDecoder<'_> {
         let bound = self.window.limit - 1;
         let mut low = self.window.range - 1;
         let mut i = from;
+        // By index: the place where it stops is the answer.
         while i < end {
             let next = step(low, table[i]);
             if next < bound {
@@ -79,6 +81,7 @@ impl BoolDecoder<'_> {
         ensures { Seeks table.now from end self.old result self.new }
     {
         let mut i = from;
+        // By index: zeros are passed over by more than one.
         while i < end {
             if self.read_bit(table[i]) {
                 return i;

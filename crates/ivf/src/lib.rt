@@ -93,6 +93,7 @@ fn list(
     }
     let room = offsets.len().min(lengths.len());
     let mut at = 32;
+    // Counted by hand: that the lists are full is told only where one more record follows.
     while let Some(size) = step_at(file, at)? {
         if room <= *count {
             return Err(WalkRefusal::ListFull);

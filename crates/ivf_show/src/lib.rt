@@ -33,8 +33,8 @@ fn tell_frames(
 }
 
 fn tell_refusal(rt: &impl Print, ended: Result<(), WalkRefusal>) {
-    let number = ivf::refusal_number(ended);
-    if number != 0 {
+    if let Err(refusal) = ended {
+        let number = refusal.number();
         let _ = println!(rt; "refused {number}");
     }
 }

@@ -13,7 +13,8 @@ pub fn show(rt: &impl Print, text: &[u8]) -> io::Result<()> {
     rt.write_all(text)
 }
 
-// Reads until buf is full, the input ends or a read fails; how many bytes came, to the start of buf.
+// Reads until buf is full, the input ends or a read fails; how many bytes came, to the start of buf. By hand: `read_exact` says little of
+// what came before a read that fails.
 fn read_full(input: &mut impl Read, buf: &mut [u8]) -> usize
     ensures { IsPrefixLen result buf.new }
 {

@@ -114,7 +114,7 @@ fn in_header(h: Header, numbers: &[u32], probs: &[u8]) -> Option<Difference>
     number.or(probs_apart(h, probs).map(Difference::Probability))
 }
 
-// The refusal and what it carries; of an accepted frame the header.
+// The refusal and what it carries, as the numbers that a list has; of an accepted frame the header.
 #[tactic(auto, unfolding(crate::specs::Found::answer_found, crate::specs::Found::answer_by))]
 fn in_answer(parsed: Parsed, given: &[u32; 3], numbers: &[u32], probs: &[u8]) -> Option<Difference>
     ensures { result ≡ answer_found parsed given.now numbers.now probs.now }

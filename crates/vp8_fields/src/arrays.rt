@@ -1,4 +1,5 @@
-// Several numbers in a row, read over an array of old ones.
+// Several numbers in a row, read over an array of old ones. The three loops differ in the read: as a closure it would want a clause of its
+// own in each.
 ghost use Rattle.std.proofs.Math.Option.{some};
 ghost use Rattle.std.specs.Prelude.{[], ◌+◌, ◌*◌, ◌≤◌};
 ghost use Rattle.rfc6386.specs.Reads.{when, lit, sint, make, times, maybe};

@@ -16,6 +16,7 @@ pub fn parse_token_prob_update(dec: &mut BoolDecoder, coeff_probs: CoeffProbs) -
     let table = vp8_probs::coeff_update_probs();
     // A copy that nothing points to, so that the loop keeps it in registers.
     let mut local = *dec;
+    // By index: the search moves it.
     let mut i = 0;
     while i < 1056 {
         i = local.seek(&table, i, 1056);
