@@ -1,5 +1,6 @@
 // Text in a buffer of fixed size, its own or a lent one: bytes, two hexadecimal digits a byte, numbers, templates. No input, no output.
-// Each writer puts its bytes after those that are there, as far as the buffer goes. No public function has a premise.
+// Each writer puts its bytes after those that are there, as far as the buffer goes. No public function has a premise but a buffer's own `put`,
+// whose place lies within it.
 #![tactic(auto)]
 
 ghost use Rattle.std.specs.Prelude.{◌≡◌, ◌<◌, ℕ, List, length, min, set, take, replicate};
