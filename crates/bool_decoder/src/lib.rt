@@ -15,9 +15,9 @@ mod norm;
 pub mod reads;
 pub mod zeros;
 
-// The state of RFC 6386 section 7.2, but for the area.
+// The state of RFC 6386 section 7.2, but for the area: what can be kept of a decoder while its area is moved or lent to others.
 #[derive(Clone, Copy)]
-struct Window {
+pub struct Window {
     // R, from 128 to 255 between reads.
     range: u32,
     // A split of this or more tells a 0 by itself: a function of `value`, kept so that most bools need no window.
@@ -166,6 +166,38 @@ pub fn check_limits(size: usize, width: u32, extra: u32, bools: u32) -> Result<(
     Ok(())
 }
 
+impl Window {
+    ghost use Rattle.std.specs.Prelude.{◌≡◌};
+    ghost use Rattle.rfc6386.specs.Decoder.{bits, position, past};
+    ghost use Rattle.bool_decoder.specs.Window.{state_of};
+
+    // How many bools were read.
+    pub fn bools(self) -> u32
+        ensures { result ≡ self.bools }
+    {
+        self.bools
+    }
+
+    // In bits; it stops at the area's end.
+    pub fn pos(self, area: &[u8]) -> u32
+        ensures { result ≡ position (bits area.now) (state_of area.now self) }
+    {
+        if ((self.doublings / 8) as usize) < area.len() {
+            self.doublings
+        } else {
+            (area.len() * 8) as u32
+        }
+    }
+
+    // In bits: how far the doublings have gone past the area's end, where the position has stopped; 0 before it.
+    pub fn past(self, area: &[u8]) -> u32
+        ensures { result ≡ past (bits area.now) (state_of area.now self) }
+    {
+        let at = self.pos(area);
+        self.doublings - at
+    }
+}
+
 impl<'a> BoolDecoder<'a> {
     ghost use Rattle.std.specs.Prelude.{◌≡◌, ◌+◌, ◌≤◌};
     ghost use Rattle.rfc6386.specs.Reads.{bool, flag};
@@ -199,6 +231,22 @@ impl<'a> BoolDecoder<'a> {
             doublings: 0,
             bools: 0,
         };
+        BoolDecoder { area, window }
+    }
+
+    // The decoder without its area.
+    pub fn window(&self) -> Window
+        ensures { result ≡ self.now.window }
+    {
+        self.window
+    }
+
+    // The decoder again, over an area of the bytes that the window was read over.
+    pub fn resume(area: &'a [u8], window: Window) -> Self
+        requires { Over area.now window }
+        ensures area { result.area ≡ area.entry }
+        ensures window { result.window ≡ window }
+    {
         BoolDecoder { area, window }
     }
 
@@ -311,27 +359,21 @@ impl<'a> BoolDecoder<'a> {
     pub fn bools(&self) -> u32
         ensures { result ≡ bools_of self.now }
     {
-        self.window.bools
+        self.window.bools()
     }
 
     // In bits; it stops at the area's end.
     pub fn pos(&self) -> u32
         ensures { result ≡ position_of self.now }
     {
-        let doublings = self.window.doublings;
-        if ((doublings / 8) as usize) < self.area.len() {
-            doublings
-        } else {
-            (self.area.len() * 8) as u32
-        }
+        self.window.pos(self.area)
     }
 
-    // In bits: how far the doublings have gone past the area's end, where the position has stopped; 0 before it.
+    // In bits: how far the doublings have gone past the area's end.
     pub fn past(&self) -> u32
         ensures { result ≡ past_of self.now }
     {
-        let at = self.pos();
-        self.window.doublings - at
+        self.window.past(self.area)
     }
 
     // The count follows the doublings, even where the position has stopped.

@@ -13,10 +13,10 @@ ghost use Rattle.bool_slow.specs.Hand.{Over};
 use bitstream_utils::byte_at;
 use bool_decoder::signed_of;
 
-// Section 7.2, what the decoder maintains, but for the area: value and the bytes not read yet are what is left of the coded number above
-// the left end of the interval.
+// Section 7.2, what the decoder maintains, but for the area: what can be kept of it while the area is moved or lent to others. Value and
+// the bytes not read yet are what is left of the coded number above the left end of the interval.
 #[derive(Clone, Copy)]
-struct Hand {
+pub struct Hand {
     // Where the next byte to be read stands in the area.
     input: u32,
     // From 128 to 255 between reads, as the encoder's.
@@ -38,7 +38,7 @@ pub struct SlowDecoder<'a> {
 }
 
 impl<'a> SlowDecoder<'a> {
-    ghost use Rattle.std.specs.Prelude.{◌+◌, ◌≤◌};
+    ghost use Rattle.std.specs.Prelude.{◌≡◌, ◌+◌, ◌≤◌};
     ghost use Rattle.rfc6386.specs.Reads.{bool};
     ghost use Rattle.bool_slow.specs.Slow.{Room, Ran, Lit, Sgn, Fresh};
 
@@ -58,6 +58,22 @@ impl<'a> SlowDecoder<'a> {
             bit_count: 0,
             bools: 0,
         };
+        SlowDecoder { area, hand }
+    }
+
+    // The decoder without its area.
+    pub fn hand(&self) -> Hand
+        ensures { result ≡ self.now.hand }
+    {
+        self.hand
+    }
+
+    // The decoder again, over an area of the bytes that it was read over.
+    pub fn resume(area: &'a [u8], hand: Hand) -> Self
+        requires { Over area.now hand }
+        ensures area { result.area ≡ area.entry }
+        ensures hand { result.hand ≡ hand }
+    {
         SlowDecoder { area, hand }
     }
 

@@ -1,6 +1,6 @@
 // Text in a buffer of fixed size, its own or a lent one: bytes, two hexadecimal digits a byte, numbers, templates. No input, no output.
-// Each writer puts its bytes after those that are there, as far as the buffer goes. No public function has a premise but a buffer's own `put`,
-// whose place lies within it.
+// Each writer puts its bytes after those that are there, as far as the buffer goes. No public function has a premise but a buffer's own
+// `put`, whose place lies within it.
 #![tactic(auto)]
 
 ghost use Rattle.std.specs.Prelude.{◌≡◌, ◌<◌, ℕ, List, length, min, set, take, replicate};
@@ -68,7 +68,7 @@ impl<'a> Buffer for &'a mut [u8] {
     }
 }
 
-// The first `count` bytes of the buffer.
+// The first `count` bytes of the buffer; all of it, and full, where count is more.
 #[derive(Drop)]
 pub struct Text<B: Buffer> {
     buffer: B,
@@ -76,14 +76,11 @@ pub struct Text<B: Buffer> {
 }
 
 impl<B: Buffer> Model for Text<B> {
-    ghost use Rattle.std.specs.Prelude.{◌≤◌, length};
     ghost use Rattle.text.specs.Text.{Text, standing};
 
     ghost Value = { Text };
 
     ghost view = { λ t. standing (B.place t.buffer) (B.bytes t.buffer) t.count };
-
-    ghost invariant = { λ t. t.count ≤ length (B.bytes t.buffer) };
 }
 
 // The first n bytes of a buffer, where they stand; all of it where n is more.
@@ -117,11 +114,10 @@ impl<B: Buffer> Text<B> {
         Text { buffer, count: 0 }
     }
 
-    // Begins with the first `count` bytes of the buffer; with all of it where count is more.
+    // Begins with the first `count` bytes of the buffer.
     pub fn after(buffer: B, count: usize) -> Self
-        ensures { result ≡ standing (B.place buffer) (B.bytes buffer) (min count (length (B.bytes buffer))) }
+        ensures { result ≡ standing (B.place buffer) (B.bytes buffer) count }
     {
-        let count = count.min(buffer.size());
         Text { buffer, count }
     }
 

@@ -26,7 +26,8 @@ use Rattle.std.proofs.Common.{Result, Ok, Err}
 use Rattle.vp8_state.specs.declared.BlockRefusal.{BlockRefusal}
 use Rattle.vp8_state.specs.declared.BlockRefusal.TheVariants.{OtherSize, OtherHeading, Fault}
 use Rattle.vp8_state.specs.Block.{block, Verdict, refusal_of, block_verdict}
-use Rattle.vp8_state.specs.Handed.{ReadAnswer, or_refused, answered, read_block, write_block, state_parse}
+use Rattle.vp8_state.specs.declared.ReadAnswer.{ReadAnswer}
+use Rattle.vp8_state.specs.Handed.{or_refused, answered, read_block, write_block, state_parse}
 use Rattle.vp8_state.specs.Handed.{taken, Left, left, record_of, Offer, asked, handed}
 use Rattle.vp8_state.specs.Handed.{Exported, stop, own, other, the_calls, calls_answers}
 use Rattle.vp8_state.proofs.Laid.{Bytes}
@@ -65,6 +66,16 @@ module _ (b : List ℕ) (x : Offer) {r : Result Parser BlockRefusal} (read : r �
       go : (v : Verdict) → Ok p ≡ or_refused v (taken v (record_of b) fresh) → (v ≡ Ok tt) × (p ≡ record_of b)
       go (Ok u) h = let s : p ≡ record_of b = cc in (refl, s)
       go (Err d) h = absurd (let z : ◌≡◌ {A = ℕ} 0 1 = cc in omega arith)
+
+  pub refused_is : {e : BlockRefusal} {p : Parser} → r ≡ Err e → p ≡ fresh
+      → ◌≡◌ {A = ReadAnswer} (record { verdict = Err e; parser = p }) (read_block b)
+  unfolding read_block
+  refused_is {e} {p} k q = go (block_verdict b) (sym k ∙ read)
+    where
+      go : (v : Verdict) → Err e ≡ or_refused v (taken v (record_of b) fresh)
+          → ◌≡◌ {A = ReadAnswer} (record { verdict = Err e; parser = p }) (record { verdict = v; parser = taken v (record_of b) fresh })
+      go (Ok u) h = absurd (let z : ◌≡◌ {A = ℕ} 0 1 = cc in omega arith)
+      go (Err d) h = let s : e ≡ d = cc in λ i. record { verdict = Err (s i); parser = q i }
 
   pub steps_called : Bytes b → {p : Parser} → r ≡ Ok p → (y : Parsed) → y ≡ called p (asked x) → (v : Verdict) (c : List ℕ)
       → left v c ≡ write_block y.parser b → (n : ℕ) → n ≡ number_of y.outcome → left n c ≡ state_parse b x

@@ -8,6 +8,7 @@ use Rattle.vp8_records.specs.Start.{fresh}
 use Rattle.rfc6386.specs.Decoder.{pick}
 use Rattle.rfc6386.specs.Call.{Asked, called}
 use Rattle.vp8_state.specs.declared.BlockRefusal.{BlockRefusal}
+use Rattle.vp8_state.specs.declared.ReadAnswer.{ReadAnswer}
 use Rattle.vp8_state.specs.Block.{record_bytes, block, Verdict, refusal_of, block_verdict, write_verdict, flat}
 use Rattle.vp8_state.specs.Laid.{parser_of}
 
@@ -27,11 +28,6 @@ left a b = record { answer = a; buffer = b }
 -- the record of a block: of what follows its heading
 abbrev pub record_of : List ℕ → Parser
 record_of b = parser_of (drop 22 b)
-
--- whether a block is taken, and a record
-pub record ReadAnswer : Type 0 where
-  pub verdict : Verdict
-  pub parser : Parser
 
 -- read: a block that is refused gives the fresh record
 unfoldable pub read_block : List ℕ → ReadAnswer

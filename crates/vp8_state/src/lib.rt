@@ -102,6 +102,15 @@ impl BlockRefusal {
     }
 }
 
+// What reading a block answers.
+#[derive(Clone, Copy, PartialEq, Eq, Debug)]
+pub struct ReadAnswer {
+    // Whether the block is taken.
+    pub verdict: Result<(), BlockRefusal>,
+    // Its record; the fresh one where it is not, so the two stand side by side.
+    pub parser: Parser,
+}
+
 // The number of the refusal; 0 for none.
 pub fn refusal_number(verdict: Result<(), BlockRefusal>) -> u32
     ensures { result ≡ refusal_of verdict }
@@ -263,12 +272,28 @@ fn parser_of(bytes: &[u8; RECORD]) -> Parser
     }
 }
 
-// Reads the record of a block.
-pub fn read_block(block: &[u8]) -> Result<Parser, BlockRefusal>
+// The record of a block, or why there is none.
+fn record_in(block: &[u8]) -> Result<Parser, BlockRefusal>
     ensures { result ≡ answered (read_block block.now) }
 {
     block_verdict(block)?;
     Ok(parser_of(block.last_chunk().unwrap()))
+}
+
+// Reads the record of a block.
+pub fn read_block(block: &[u8]) -> ReadAnswer
+    ensures { result ≡ read_block block.now }
+{
+    match record_in(block) {
+        Ok(parser) => ReadAnswer {
+            verdict: Ok(()),
+            parser,
+        },
+        Err(refusal) => ReadAnswer {
+            verdict: Err(refusal),
+            parser: Parser::new(),
+        },
+    }
 }
 
 // The record of a block into the caller's 1,126 bytes.
@@ -317,7 +342,7 @@ pub fn vp8_state_write(bytes: &[u8], block: &mut [u8]) -> u32
 pub fn vp8_state_parse(mode: u32, block: &mut [u8], frame: &[u8]) -> u32
     ensures { left result block.new ≡ state_parse block.old (record { mode = mode; frame = frame.now }) }
 {
-    match read_block(block) {
+    match record_in(block) {
         Ok(parser) => {
             let parsed = vp8_parser::parse_in(parser, frame, Mode::from(mode));
             // A call leaves no fault, so the block takes its record.
