@@ -15,7 +15,8 @@ fn mark(sum: u64, set: bool, place: usize) -> u64
     if set { fold(sum, place as u64) } else { sum }
 }
 
-// The table is lent down: a constant array is made anew wherever it is named.
+// Never inlined: over a table that it knows, the loop would make its address anew at each flag.
+#[inline(never)]
 fn flags(area: &[u8], table: &[u8; 1056]) -> u64
     requires { table.now ≡ coeff_update }
     ensures { result ≡ sum_of area.now }
