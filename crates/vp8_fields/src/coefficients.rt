@@ -8,6 +8,7 @@ use bool_decoder::{BoolDecoder, Read};
 use vp8_records::CoeffProbs;
 
 // token_prob_update() of section 19.2. Nearly all flags are 0, so the next that is set is sought; the table is made once, and lent down.
+#[inline(always)]
 pub fn parse_token_prob_update(dec: &mut BoolDecoder, coeff_probs: CoeffProbs) -> Read<CoeffProbs>
     requires { Room dec.old 9504 }
     ensures { Passed (make (λ us. coeffs_over us coeff_probs) coefficients) dec.old result.value result.past dec.new 9504 }

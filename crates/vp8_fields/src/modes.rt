@@ -8,6 +8,7 @@ use crate::arrays::bytes_if;
 use bool_decoder::{BoolDecoder, Read};
 
 // All N probabilities anew where their common flag is set.
+#[inline(always)]
 fn parse_mode_probs<const N: usize>(dec: &mut BoolDecoder, old: [u8; N]) -> Read<[u8; N]>
     requires { Room dec.old (1 + 8 * N) }
     ensures { Passed (onto old.entry (modes N)) dec.old result.value result.past dec.new (1 + 8 * N) }
@@ -18,6 +19,7 @@ fn parse_mode_probs<const N: usize>(dec: &mut BoolDecoder, old: [u8; N]) -> Read
 }
 
 // intra_16x16_prob of section 19.2: all four.
+#[inline(always)]
 pub fn parse_intra_16x16_prob_update(dec: &mut BoolDecoder, old: [u8; 4]) -> Read<[u8; 4]>
     requires { Room dec.old 33 }
     ensures { Passed (onto old (modes 4)) dec.old result.value result.past dec.new 33 }
@@ -26,6 +28,7 @@ pub fn parse_intra_16x16_prob_update(dec: &mut BoolDecoder, old: [u8; 4]) -> Rea
 }
 
 // intra_chroma_prob of section 19.2: all three.
+#[inline(always)]
 pub fn parse_intra_chroma_prob_update(dec: &mut BoolDecoder, old: [u8; 3]) -> Read<[u8; 3]>
     requires { Room dec.old 25 }
     ensures { Passed (onto old (modes 3)) dec.old result.value result.past dec.new 25 }

@@ -22,6 +22,7 @@ fn mv_of(update: u8) -> u8
 }
 
 // One where its bool, at the chance p, is set, `other` where it isn't.
+#[inline(always)]
 fn mv_or(dec: &mut BoolDecoder, p: u8, other: u8) -> u8
     requires { Room dec.old 8 }
     ensures { Ran (make (λ u. or u other) (coded_mv p)) dec.old result dec.new 8 }
@@ -34,6 +35,7 @@ fn mv_or(dec: &mut BoolDecoder, p: u8, other: u8) -> u8
 }
 
 // The nineteen of one component, whose chances stand in the table from `at` on.
+#[inline(always)]
 fn mv_context(dec: &mut BoolDecoder, table: &[u8; 38], at: usize, row: MvContext) -> MvContext
     requires { (table.now ≡ mv_update) × (at + 19 ≤ 38) × Room dec.old 152 }
     ensures { Ran (row_over flat_mv_context laid_mv_context 19 coded_mv mv_update at row) dec.old result dec.new 152 }
@@ -46,6 +48,7 @@ fn mv_context(dec: &mut BoolDecoder, table: &[u8; 38], at: usize, row: MvContext
 }
 
 // mv_prob_update() of section 19.2.
+#[inline(always)]
 pub fn parse_mv_prob_update(dec: &mut BoolDecoder, mv_probs: MvProbs) -> Read<MvProbs>
     requires { Room dec.old 304 }
     ensures { Passed (make (λ us. mv_over us mv_probs) motion) dec.old result.value result.past dec.new 304 }

@@ -11,6 +11,7 @@ use bool_decoder::{BoolDecoder, Read};
 use vp8_records::{Mode, Segmentation};
 
 // The tree's three probabilities where `on` is set: each is read anew, and 255 where its flag is clear.
+#[inline(always)]
 fn segment_probs_if(dec: &mut BoolDecoder, on: bool, old: [u8; 3]) -> [u8; 3]
     requires { Room dec.old 27 }
     ensures { Ran (onto old (when on (anew 3 (lit 8) 255) [])) dec.old result dec.new 27 }
@@ -19,6 +20,7 @@ fn segment_probs_if(dec: &mut BoolDecoder, on: bool, old: [u8; 3]) -> [u8; 3]
 }
 
 // The feature data, written over those of a record.
+#[inline(always)]
 fn feature_data(dec: &mut BoolDecoder, seg: Segmentation) -> Segmentation
     requires { Room dec.old 69 }
     ensures { Ran (make (λ f. featured f seg) features) dec.old result dec.new 69 }
@@ -31,6 +33,7 @@ fn feature_data(dec: &mut BoolDecoder, seg: Segmentation) -> Segmentation
 }
 
 // The same where `on` is set.
+#[inline(always)]
 fn feature_data_if(dec: &mut BoolDecoder, on: bool, seg: Segmentation) -> Segmentation
     requires { Room dec.old 69 }
     ensures { Ran (make (λ f. featured f seg) (features_if on)) dec.old result dec.new 69 }
@@ -49,6 +52,7 @@ fn probs_coded(mode: Mode, map: bool, feature: bool) -> bool
 }
 
 // update_segmentation() of section 19.2.
+#[inline(always)]
 pub fn update_segmentation(
     dec: &mut BoolDecoder,
     seg: Segmentation,

@@ -265,6 +265,7 @@ fn parse_inter_if(dec: &mut BoolDecoder, on: bool, modes: ModeProbs, mv: MvProbs
 }
 
 // From the coefficient probabilities on (RFC 6386 sections 13.4 and 9.11).
+#[inline(always)]
 fn parse_third(dec: &mut BoolDecoder, key: bool, parser: Parser) -> Third
     requires { Room dec.old 9899 }
     ensures { Ran (make (third_of (probs_of parser)) (third key)) dec.old result dec.new 9899 }

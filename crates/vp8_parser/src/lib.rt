@@ -148,6 +148,7 @@ fn refused(refusal: Refusal, parser: Parser) -> Parsed
 }
 
 // The state that a frame starts from: a key frame resets.
+#[inline(always)]
 fn base_of(chunk: DataChunk, parser: Parser) -> Parser
     ensures { result ≡ base (chunk_of chunk) parser }
 {
@@ -179,7 +180,8 @@ fn held(mode: Mode, first: u32, area: &[u8]) -> &[u8]
     }
 }
 
-// A frame of whose area some bytes are held, over the state that it starts from.
+// A frame of whose area some bytes are held, over the state that it starts from. Inlined with all on its way, since an answer that a call
+// is to fill is cleared before, and copied after.
 #[inline(always)]
 fn parse_area(parser: Parser, area: &[u8], held: &[u8], chunk: DataChunk, mode: Mode) -> Parsed
     requires { length area.now < 2 ^ 28 }
@@ -189,16 +191,14 @@ fn parse_area(parser: Parser, area: &[u8], held: &[u8], chunk: DataChunk, mode: 
     let mut header = headed.header;
     let after = headed.parser;
     let partitions = header.num_dct_partitions();
-    match compute_partition_sizes(area, chunk.first_part_size, partitions) {
-        Some(sizes) => {
-            header.partition_size = sizes;
-            Parsed {
-                outcome: Ok(()),
-                header,
-                parser: after,
-            }
-        }
-        None => refused(Refusal::EndOfHeader, after),
+    let Some(sizes) = compute_partition_sizes(area, chunk.first_part_size, partitions) else {
+        return refused(Refusal::EndOfHeader, after);
+    };
+    header.partition_size = sizes;
+    Parsed {
+        outcome: Ok(()),
+        header,
+        parser: after,
     }
 }
 

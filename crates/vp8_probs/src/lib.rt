@@ -1,4 +1,5 @@
-// The probability tables of probs.rs: see tables.rt. A constant array is made anew wherever it is named: name one once, and lend it down.
+// The probability tables of probs.rs: see tables.rt. A constant array that is named is made number by number, one that is lent (`&`) stands
+// in the constant data.
 #![tactic(auto)]
 
 ghost use Rattle.std.specs.Prelude.{◌≡◌, ℕ, ◌<◌, get_or};
@@ -10,5 +11,6 @@ pub mod tables;
 pub fn coeff_update_probs() -> [u8; 1056]
     ensures { (result ≡ coeff_update) × ((n : ℕ) → n < 1056 → 0 < get_or result n 0) }
 {
+    // A copy out of the constant data.
     *&tables::COEFF_UPDATE_PROBS
 }

@@ -402,6 +402,7 @@ impl CoeffProbs {
     pub fn new() -> Self
         ensures { result ≡ fresh_coeffs }
     {
+        // A copy out of the constant data.
         CoeffProbs {
             v: *&tables::COEFF_DEFAULT_PROBS,
         }
@@ -438,6 +439,7 @@ impl MvProbs {
     }
 
     // What a parser starts with: the default table (17.2).
+    #[inline(always)]
     #[tactic(auto, unfolding(crate::specs::Start::fresh_mv, vp8_probs::specs::Tables::mv_default))]
     pub fn new() -> Self
         ensures { result ≡ fresh_mv }
@@ -460,8 +462,8 @@ impl Parser {
     // A frame of this many bytes or more is refused.
     pub const TOO_LONG: usize = 1 << 28;
 
-    // A parser that has seen no frame. Never inlined: the optimizer would write its tables out byte by byte where it has one caller.
-    #[inline(never)]
+    // A parser that has seen no frame.
+    #[inline(always)]
     #[tactic(auto, unfolding(crate::specs::Start::fresh))]
     pub fn new() -> Self
         ensures { result ≡ fresh }

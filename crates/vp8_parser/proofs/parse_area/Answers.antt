@@ -30,18 +30,18 @@ compute_partition_sizes-requires-clause-few c = let a = c.args in
     let n = counted a.mode a.chunk a.held.now a.parser _ _ c.parse_frame_header-headed.ensures c.num_dct_partitions-partitions.ensures in
     rw n (one_to_eight _ (few a.mode a.chunk.key_frame a.held.now))
 
-pub returns-in-Some : goal.returns-in-Some
+pub returns : goal.returns
 unfolding headed_of sized_of
-returns-in-Some c = let a = c.args in
+returns c = let a = c.args in
     let h = c.parse_frame_header-headed.ensures in
     let n = counted a.mode a.chunk a.held.now a.parser _ _ h c.num_dct_partitions-partitions.ensures in
     ap (λ (y : Headed). answer (Ok tt) (record y.header { partition_size = c.in-Some.sizes }) y.parser) h
     ∙ sized_some (chunk_of a.chunk) _ _ a.parser (parts_of a.mode a.chunk a.area.now a.held.now) _ (rw n at c.in-Some.ensures)
 
-pub returns-in-None : goal.returns-in-None
+pub returns-in_default : goal.returns-in_default
 unfolding headed_of sized_of
-returns-in-None c = let a = c.args in
+returns-in_default c = let a = c.args in
     let h = c.parse_frame_header-headed.ensures in
     let n = counted a.mode a.chunk a.held.now a.parser _ _ h c.num_dct_partitions-partitions.ensures in
     c.refused.ensures ∙ ap (λ (y : Headed). answer (Err EndOfHeader) blank y.parser) h
-    ∙ sized_none (chunk_of a.chunk) _ _ a.parser (parts_of a.mode a.chunk a.area.now a.held.now) (rw n at c.in-None.ensures)
+    ∙ sized_none (chunk_of a.chunk) _ _ a.parser (parts_of a.mode a.chunk a.area.now a.held.now) (rw n at c.in_default.ensures)
