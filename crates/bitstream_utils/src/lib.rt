@@ -1,6 +1,6 @@
 // Plain bytes of a slice, as bitstream_utils.rs reads them: little-endian numbers, the least significant byte first.
-// Every function answers at every place: a byte past the end counts as 0. Each width is its definition's one line; one function over a width
-// would need a definition of its own and a bound on it.
+// Every function answers at every place: a byte past the end counts as 0. Each width is its definition's one line; one function over a
+// width would need a definition of its own and a bound on it.
 #![tactic(auto)]
 
 ghost use Rattle.std.specs.Prelude.{◌≡◌, get_or};
