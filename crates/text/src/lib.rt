@@ -9,40 +9,23 @@ ghost use Rattle.text.specs.Digits.{glyph as Digits·glyph, hex_of, decimal_of, 
 ghost use Rattle.text.specs.Template.{filled};
 ghost use Rattle.text.specs.Lines.{numbered};
 
+use std::convert::AsSlice;
 use std::marker::Model;
 
 // Where a text stands: bytes of a fixed number, each of which can be put.
-pub trait Buffer {
-    ghost bytes: { Self → List ℕ };
-
+pub trait Buffer: AsSlice<u8> {
     // Which bytes, where they are lent, so that who lent them learns what was put.
     ghost place: { Self → ℕ };
 
-    fn size(&self) -> usize
-        ensures { result ≡ length (bytes self.now) };
-
-    fn as_slice(&self) -> &[u8]
-        ensures { result.now ≡ bytes self.now };
-
     fn put(&mut self, at: usize, b: u8)
-        requires { at < length (bytes self.old) }
-        ensures bytes { bytes self.new ≡ set (bytes self.old) at b }
+        requires { at < length (Self.items self.old) }
+        ensures bytes { Self.items self.new ≡ set (Self.items self.old) at b }
         ensures place { place self.new ≡ place self.old };
 }
 
 // The text's own.
 impl<const N: usize> Buffer for [u8; N] {
-    ghost bytes = { λ xs. xs };
-
     ghost place = { λ _. 0 };
-
-    fn size(&self) -> usize {
-        N
-    }
-
-    fn as_slice(&self) -> &[u8] {
-        self
-    }
 
     fn put(&mut self, at: usize, b: u8) {
         self[at] = b;
@@ -51,17 +34,7 @@ impl<const N: usize> Buffer for [u8; N] {
 
 // A lent one.
 impl<'a> Buffer for &'a mut [u8] {
-    ghost bytes = { λ r. r.now };
-
     ghost place = { λ r. r.ghost_name };
-
-    fn size(&self) -> usize {
-        self.len()
-    }
-
-    fn as_slice(&self) -> &[u8] {
-        &**self
-    }
 
     fn put(&mut self, at: usize, b: u8) {
         (**self)[at] = b;
@@ -80,7 +53,7 @@ impl<B: Buffer> Model for Text<B> {
 
     ghost Value = { Text };
 
-    ghost view = { λ t. standing (B.place t.buffer) (B.bytes t.buffer) t.count };
+    ghost view = { λ t. standing (B.place t.buffer) (B.items t.buffer) t.count };
 }
 
 // The first n bytes of a buffer, where they stand; all of it where n is more.
@@ -109,14 +82,14 @@ impl<const N: usize> Text<[u8; N]> {
 impl<B: Buffer> Text<B> {
     // Nothing yet, over what is in the buffer.
     pub fn over(buffer: B) -> Self
-        ensures { result ≡ standing (B.place buffer) (B.bytes buffer) 0 }
+        ensures { result ≡ standing (B.place buffer) (B.items buffer) 0 }
     {
         Text { buffer, count: 0 }
     }
 
     // Begins with the first `count` bytes of the buffer.
     pub fn after(buffer: B, count: usize) -> Self
-        ensures { result ≡ standing (B.place buffer) (B.bytes buffer) count }
+        ensures { result ≡ standing (B.place buffer) (B.items buffer) count }
     {
         Text { buffer, count }
     }
@@ -137,7 +110,7 @@ impl<B: Buffer> Text<B> {
 
     // The whole buffer, of which the text is the start.
     pub fn into_buffer(self) -> B
-        ensures bytes { B.bytes result ≡ self.buffer }
+        ensures bytes { B.items result ≡ self.buffer }
         ensures place { B.place result ≡ self.place }
     {
         self.buffer
@@ -147,7 +120,7 @@ impl<B: Buffer> Text<B> {
     pub fn byte(&mut self, b: u8)
         ensures { self.new ≡ put self.old b }
     {
-        if self.count < self.buffer.size() {
+        if self.count < self.buffer.as_slice().len() {
             self.buffer.put(self.count, b);
             self.count += 1;
         }

@@ -6,6 +6,7 @@ ghost use Rattle.std.specs.Prelude.{◌≡◌};
 ghost use Rattle.vp8_records.specs.declared.Mode.TheVariants.{Rust};
 ghost use Rattle.vp8_frame.specs.View.{viewed, Framed};
 
+use std::convert::AsSlice;
 use vp8_records::{Header, Mode, Parser, Refusal};
 
 // A header and the whole frame that it was read from; of a refusal, the blank header and an empty part.
@@ -57,5 +58,14 @@ impl<'a> Frame<'a> {
         ensures { result ≡ self.now.bitstream }
     {
         self.bitstream
+    }
+}
+
+impl AsSlice<u8> for Frame<'_> {
+    ghost items = { λ f. f.bitstream.now };
+
+    // The same, for those who take whatever lends bytes.
+    fn as_slice(&self) -> &[u8] {
+        self.as_ref()
     }
 }

@@ -1,7 +1,7 @@
 // Many frames over one parser: the fold of calls, so that what is proved of any list of calls holds of running code.
 #![tactic(auto)]
 
-ghost use Rattle.std.specs.Prelude.{◌≡◌, [], get_or};
+ghost use Rattle.std.specs.Prelude.{◌≡◌, [], get_or, drop};
 ghost use Rattle.vp8_records.specs.Mode.{mode_of};
 ghost use Rattle.rfc6386.specs.Fills.{cuts};
 ghost use Rattle.vp8_sequence.specs.Fold.{asked, Folds};
@@ -17,13 +17,14 @@ pub struct Folded {
     pub accepted: usize,
 }
 
-// The mode of a frame; where there are no more modes, the Rust's.
-fn mode_at(modes: &[u8], i: usize) -> Mode
-    ensures { result ≡ mode_of (get_or modes.now i 0) }
+// The next mode, and those after it; where there are no more modes, the Rust's.
+fn next_mode(modes: &[u8]) -> (Mode, &[u8])
+    ensures mode { result.0 ≡ mode_of (get_or modes.now 0 0) }
+    ensures rest { result.1.now ≡ drop 1 modes.now }
 {
-    match modes.get(i) {
-        Some(&number) => Mode::from(u32::from(number)),
-        None => Mode::Rust,
+    match modes {
+        [number, rest @ ..] => (Mode::from(u32::from(*number)), rest),
+        [] => (Mode::Rust, modes),
     }
 }
 
@@ -36,12 +37,15 @@ pub fn parse_frames_in(parser: Parser, bytes: &[u8], lengths: &[u32], modes: &[u
     let mut state = parser;
     let mut accepted: usize = 0;
     let mut rest = bytes;
-    for (i, &length) in lengths.iter().enumerate() {
+    let mut left = modes;
+    for &length in lengths {
         let (frame, after) = rest.split_at(rest.len().min(length as usize));
-        let answer = vp8_parser::parse_in(state, frame, mode_at(modes, i));
+        let (mode, others) = next_mode(left);
+        let answer = vp8_parser::parse_in(state, frame, mode);
         accepted += usize::from(answer.outcome.is_ok());
         state = answer.parser;
         rest = after;
+        left = others;
     }
     Folded {
         parser: state,
