@@ -23,8 +23,8 @@ fn tell_frames(
     ensures { result ≡ after parser (all_in mode (bytes_of file.now (places_of offsets.now lengths.now))) }
 {
     let mut state = parser;
-    for i in 0..offsets.len().min(lengths.len()) {
-        let bytes = vp8_recording::frame_at(file, offsets[i], lengths[i]);
+    for (i, (&offset, &length)) in offsets.iter().zip(lengths).enumerate() {
+        let bytes = vp8_recording::frame_at(file, offset, length);
         let answer = vp8_parser::parse_in(state, bytes, mode);
         vp8_show::print::tell_numbered(rt, i as u64, answer);
         state = answer.parser;

@@ -1,14 +1,19 @@
 -- As `feed` of vp8_recording: a turn takes the next listed frame, and its lines leave the parser alone.
-use native.Mathlib.Omega.{arith}
-use mathlib.Core.Path.{ap, ◌∙◌}
+use Rattle.std.proofs.Common.{ap, subst, refl, ◌∙◌}
+use Rattle.std.proofs.lemmas.Fn.{fronts}
+use Rattle.std.proofs.lemmas.Iterator.{zips}
+use Rattle.std.proofs.lemmas.Slice.Zip.{either_empty_from_Zip}
+use Rattle.std.specs.Iterator.Adapters.{enumerate_source, enumerate_steps}
 use Rattle.rfc6386.specs.Call.{call}
 use Rattle.vp8_recording.proofs.Feeds.{turn, end}
 use Rattle.ivf_show.proofs.tell_frames.Goals as goal
 
 pub loop-i-preserved : goal.loop-i-preserved
-loop-i-preserved g c =
-    turn c.loop-i.invariant (omega (arith, c.loop-i-test.true)) (omega (arith, c.loop-i-test.true))
-    (c.parse_in-answer.ensures ∙ ap (call _ _) c.frame_at-bytes.ensures.0)
+loop-i-preserved g c = let l = c.loop-i in
+    let z = subst (λ o. enumerate_steps (zips fronts fronts) l.i-iterator o c.next.new.self) c.in-Some.is c.next.ensures.steps in
+    turn l.invariant z.0.0 z.0.1 (c.parse_in-answer.ensures ∙ ap (call _ _) c.frame_at-bytes.ensures.0)
 
 pub returns : goal.returns
-returns g c = end c.loop-i.invariant (omega (arith, c.loop-i-test.false))
+returns g c = let l = c.loop-i in
+    let z = subst (λ o. enumerate_steps (zips fronts fronts) l.i-iterator o c.next.new.self) c.in-None.is c.next.ensures.steps in
+    end l.invariant (either_empty_from_Zip (enumerate_source l.i-iterator) (enumerate_source c.next.new.self) _ refl z.0)
