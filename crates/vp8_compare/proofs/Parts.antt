@@ -1,5 +1,5 @@
--- Where runs differ: a loop over the first one has at its head what is left of it, and the place; two runs one after the other differ where the first
--- does, or else where the second does. By induction on the first run.
+-- Where runs differ: a loop over the first one has at its head what is left of it, and the place; two runs one after the other differ
+-- where the first does, or else where the second does. By induction on the first run.
 use Prim.Native.Nat.{ℕ, suc, ◌+◌, ◌-◌, ◌^◌, ◌<◌}
 use native.Mathlib.Omega.{arith}
 use native.Mathlib.Nat.{add-zero}
@@ -82,7 +82,8 @@ append n (x ∷ xs) ys (z ∷ zs) =
 
 -- a run at a place of the stored ones, then another
 pub then : (from m : ℕ) (xs ys stored : List ℕ) {p q r : Option ℕ} → m ≡ from + length xs
-    → p ≡ apart from xs (drop from stored) → q ≡ apart m ys (drop m stored) → r ≡ option_or p q → r ≡ apart from (xs ++ ys) (drop from stored)
+    → p ≡ apart from xs (drop from stored) → q ≡ apart m ys (drop m stored) → r ≡ option_or p q
+    → r ≡ apart from (xs ++ ys) (drop from stored)
 then from m xs ys stored {q} e f g h =
     h ∙ ap (λ (z : Option ℕ). option_or z q) f
     ∙ ap (option_or (apart from xs (drop from stored))) (g ∙ rw (e, ← drop-drop (length xs) from stored))
