@@ -10,6 +10,7 @@ use Rattle.vp8_flat.specs.declared.header.Carried.{Carried}
 use Rattle.vp8_flat.specs.Bytes.{flat_modes, kept_bytes}
 use Rattle.vp8_flat.specs.Numbers.{carried_of, front_numbers, flags_of, tail_of}
 use Rattle.vp8_compare.specs.Apart.{apart}
+use Rattle.vp8_compare.specs.declared.Stored.{Stored}
 use Rattle.vp8_compare.specs.declared.Difference.{Difference}
 use Rattle.vp8_compare.specs.declared.Difference.TheVariants.{Refusal, Carried as Carries, Number, Probability, Kept}
 
@@ -24,23 +25,22 @@ header_numbers h = front_numbers h ++ back_numbers h
 abbrev pub prob_bytes : Header → List ℕ
 prob_bytes h = flat_coeffs h.coeff_prob ++ (flat_mv h.mv_prob ++ flat_modes h.mode_probs)
 
-unfoldable pub header_found : Header → List ℕ → List ℕ → Option Difference
-header_found h numbers probs =
-    option_or (option_map Number (apart 0 (header_numbers h) numbers)) (option_map Probability (apart 0 (prob_bytes h) probs))
+unfoldable pub header_found : Header → Stored → Option Difference
+header_found h s =
+    option_or (option_map Number (apart 0 (header_numbers h) s.numbers.now)) (option_map Probability (apart 0 (prob_bytes h) s.probs.now))
 
 -- a refusal's number, 0 where the frame is accepted, and what it carries stand first; of an accepted frame the header follows
-unfoldable pub answer_by : Carried → Header → List ℕ → List ℕ → List ℕ → Option Difference
-answer_by c h given numbers probs =
-    pick (eqb c.number (get_or given 0 0))
-    (pick (eqb c.a (get_or given 1 0))
-    (pick (eqb c.b (get_or given 2 0)) (pick (eqb c.number 0) (header_found h numbers probs) None) (Some Carries))
+unfoldable pub answer_by : Carried → Header → Stored → Option Difference
+answer_by c h s =
+    pick (eqb c.number (get_or s.given.now 0 0))
+    (pick (eqb c.a (get_or s.given.now 1 0))
+    (pick (eqb c.b (get_or s.given.now 2 0)) (pick (eqb c.number 0) (header_found h s) None) (Some Carries))
     (Some Carries))
     (Some Refusal)
 
-unfoldable pub answer_found : Parsed → List ℕ → List ℕ → List ℕ → Option Difference
-answer_found p given numbers probs = answer_by (carried_of p.outcome) p.header given numbers probs
+unfoldable pub answer_found : Parsed → Stored → Option Difference
+answer_found p s = answer_by (carried_of p.outcome) p.header s
 
 -- what was found, or else where the kept numbers differ
-unfoldable pub found_of : Parsed → List ℕ → List ℕ → List ℕ → List ℕ → Option Difference
-found_of p given numbers probs kept =
-    option_or (answer_found p given numbers probs) (option_map Kept (apart 0 (kept_bytes p.parser) kept))
+unfoldable pub found_of : Parsed → Stored → Option Difference
+found_of p s = option_or (answer_found p s) (option_map Kept (apart 0 (kept_bytes p.parser) s.kept.now))

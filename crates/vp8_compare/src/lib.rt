@@ -12,6 +12,19 @@ ghost use Rattle.vp8_compare.specs.Found.{header_found, answer_found, found_of};
 use std::fmt;
 use vp8_records::{Header, Parsed, Parser};
 
+// A stored answer, as a list has it; of a frame that is refused the header's part says nothing.
+#[derive(Clone, Copy)]
+pub struct Stored<'a> {
+    // The number of the refusal, 0 for none, and what it carries.
+    pub given: &'a [u32; 3],
+    // The header's numbers.
+    pub numbers: &'a [u32],
+    // The header's probabilities.
+    pub probs: &'a [u8],
+    // The kept numbers after the call.
+    pub kept: &'a [u8],
+}
+
 // What differs, in the order in which a list has an answer.
 #[derive(Clone, Copy, PartialEq, Eq, Debug)]
 pub enum Difference {
@@ -45,9 +58,9 @@ fn first_apart<T: PartialEq>(a: &[T], b: &[T], from: usize) -> Option<usize>
     requires { from + length a.now < 2 ^ 64 }
     ensures { result ≡ apart_by T.eq from a.now (drop from b.now) }
 {
-    for (i, x) in a.iter().enumerate() {
-        if b.get(from + i) != Some(x) {
-            return Some(from + i);
+    for (at, x) in (from..).zip(a) {
+        if b.get(at) != Some(x) {
+            return Some(at);
         }
     }
     None
@@ -107,42 +120,37 @@ pub fn fresh_apart(stored: &[u8]) -> Option<usize>
 }
 
 #[tactic(auto, using(crate::proofs::Maps::mapped), unfolding(crate::specs::Found::header_found))]
-fn in_header(h: Header, numbers: &[u32], probs: &[u8]) -> Option<Difference>
-    ensures { result ≡ header_found h numbers.now probs.now }
+fn in_header(h: Header, stored: Stored) -> Option<Difference>
+    ensures { result ≡ header_found h stored.entry }
 {
-    let number = header_apart(h, numbers).map(Difference::Number);
-    number.or(probs_apart(h, probs).map(Difference::Probability))
+    let number = header_apart(h, stored.numbers).map(Difference::Number);
+    number.or(probs_apart(h, stored.probs).map(Difference::Probability))
 }
 
 // The refusal and what it carries, as the numbers that a list has; of an accepted frame the header.
 #[tactic(auto, unfolding(crate::specs::Found::answer_found, crate::specs::Found::answer_by))]
-fn in_answer(parsed: Parsed, given: &[u32; 3], numbers: &[u32], probs: &[u8]) -> Option<Difference>
-    ensures { result ≡ answer_found parsed given.now numbers.now probs.now }
+fn in_answer(parsed: Parsed, stored: Stored) -> Option<Difference>
+    ensures { result ≡ answer_found parsed stored.entry }
 {
     let refusal = vp8_flat::header::refusal(parsed.outcome);
-    if refusal.number != given[0] {
+    let [number, a, b] = *stored.given;
+    if refusal.number != number {
         return Some(Difference::Refusal);
     }
-    if refusal.a != u64::from(given[1]) || refusal.b != u64::from(given[2]) {
+    if refusal.a != u64::from(a) || refusal.b != u64::from(b) {
         return Some(Difference::Carried);
     }
     if refusal.number != 0 {
         return None;
     }
-    in_header(parsed.header, numbers, probs)
+    in_header(parsed.header, stored)
 }
 
 // The first difference between an answer and the stored one; none where they are the same.
 #[tactic(auto, using(crate::proofs::Maps::mapped), unfolding(crate::specs::Found::found_of))]
-pub fn first(
-    parsed: Parsed,
-    given: &[u32; 3],
-    numbers: &[u32],
-    probs: &[u8],
-    stored: &[u8],
-) -> Option<Difference>
-    ensures { result ≡ found_of parsed given.now numbers.now probs.now stored.now }
+pub fn first(parsed: Parsed, stored: Stored) -> Option<Difference>
+    ensures { result ≡ found_of parsed stored.entry }
 {
-    let kept = kept_apart(parsed.parser, stored);
-    in_answer(parsed, given, numbers, probs).or(kept.map(Difference::Kept))
+    let kept = kept_apart(parsed.parser, stored.kept);
+    in_answer(parsed, stored).or(kept.map(Difference::Kept))
 }

@@ -8,7 +8,7 @@ mod list;
 use lines::CutShort;
 use std::fmt;
 use std::io::Read;
-use vp8_compare::Difference;
+use vp8_compare::{Difference, Stored};
 use vp8_records::{Mode, Parser};
 use vp8_show::input;
 
@@ -142,9 +142,9 @@ struct Replay {
 
 // A stored answer, beside the probabilities and the kept numbers: the refusal with what it carries, and an accepted frame's numbers.
 #[derive(Clone, Copy)]
-struct Stored {
+struct Answer {
     given: [u32; 3],
-    numbers: [u32; 51],
+    numbers: Option<[u32; 51]>,
 }
 
 impl Replay {
@@ -169,15 +169,15 @@ impl Replay {
         self.tally.within = 0;
     }
 
-    fn take_stored(&mut self, input: &mut impl Read) -> Result<Stored, list::Fault> {
+    fn take_stored(&mut self, input: &mut impl Read) -> Result<Answer, list::Fault> {
         let given = list::numbers(input, &[1, 4, 4])?;
-        let mut numbers = [0; 51];
+        let mut numbers = None;
         if given[0] == 0 {
-            numbers = list::numbers(input, &WIDTHS)?;
+            numbers = Some(list::numbers(input, &WIDTHS)?);
             list::patch(input, &mut self.probs)?;
         }
         list::patch(input, &mut self.kept)?;
-        Ok(Stored { given, numbers })
+        Ok(Answer { given, numbers })
     }
 
     // A frame, and its answer held against the stored one. The number of the worked case that it is stands first, 0 for none.
@@ -185,16 +185,17 @@ impl Replay {
         let mut buffer = [0u8; 65536];
         let [case, size] = list::numbers(input, &[1, 4])?;
         let count = input::take_frame(input, &mut buffer, size)?;
-        let stored = self.take_stored(input).map_err(|_| Fault::Answer)?;
+        let answer = self.take_stored(input).map_err(|_| Fault::Answer)?;
         let parsed = vp8_parser::parse_in(self.parser, &buffer[..count], mode);
         self.parser = parsed.parser;
-        let found = vp8_compare::first(
-            parsed,
-            &stored.given,
-            &stored.numbers,
-            &self.probs,
-            &self.kept,
-        );
+        // Of a stored refusal there are no numbers, and none are looked at.
+        let stored = Stored {
+            given: &answer.given,
+            numbers: answer.numbers.as_slice().as_flattened(),
+            probs: &self.probs,
+            kept: &self.kept,
+        };
+        let found = vp8_compare::first(parsed, stored);
         self.tally.judge(rt, case, found);
         Ok(())
     }

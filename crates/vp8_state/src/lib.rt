@@ -214,13 +214,7 @@ fn signed_at(bytes: &[u8; RECORD], at: usize) -> [i8; 4]
     requires { at + 4 ≤ 1126 }
     ensures { result ≡ map (to_z w8) (part at 4 bytes.now) }
 {
-    let v: [u8; 4] = array_at(bytes, at);
-    [
-        v[0].cast_signed(),
-        v[1].cast_signed(),
-        v[2].cast_signed(),
-        v[3].cast_signed(),
-    ]
+    array_at::<4>(bytes, at).map(|b| b.cast_signed())
 }
 
 fn segmentation_of(bytes: &[u8; RECORD]) -> Segmentation
