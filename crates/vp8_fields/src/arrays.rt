@@ -1,5 +1,5 @@
-// Several numbers in a row, read over an array of old ones. The three loops differ in the read: as a closure it would want a clause of its
-// own in each.
+// Several numbers in a row, read over an array of old ones. The three loops differ in the read, and are not one loop that takes a closure:
+// the checker makes no proof of a function of any N that passes one.
 ghost use Rattle.std.proofs.Math.Option.{some};
 ghost use Rattle.std.specs.Prelude.{[], ◌+◌, ◌*◌, ◌≤◌};
 ghost use Rattle.rfc6386.specs.Reads.{when, lit, sint, make, times, maybe};
@@ -53,5 +53,6 @@ pub fn bytes_if<const N: usize>(dec: &mut BoolDecoder, on: bool, old: [u8; N]) -
     requires { Room dec.old (8 * N) }
     ensures { Ran (onto old.entry (when on (times N (make some (lit 8))) [])) dec.old result dec.new (8 * N) }
 {
+    // By an `if`: a function of any N passes no closure.
     if on { bytes(dec, old) } else { old }
 }
