@@ -45,14 +45,13 @@ pub top : (l : ℕ) → 256 * 2 ^ l ≡ 2 ^ (l + 8)
 top l = mul_comm 256 (2 ^ l) ∙ sym (pow-add 2 l 8)
 
 -- the fresh one: the window is the first eight bytes
-pub fresh : (area : List ℕ) (w at : ℕ) → at ≡ 8 → w < 256 ^ at → w * 2 ^ bits area + rest area at ≡ number area * 256 ^ at
+pub fresh : (area : List ℕ) (w : ℕ) → w < 256 ^ 8 → w * 2 ^ bits area + rest area 8 ≡ number area * 256 ^ 8
     → ((i : ℕ) → get_or area i 0 < 256) → {limit : ℕ} → limit ≡ limit_of w
     → Fresh window area (record { range = 255; limit = limit; value = w; doublings = 0; bools = 0 })
 unfolding start
-fresh area w at is8 small whole bytes is =
+fresh area w small whole bytes is =
     let v : ℕ = number area * 256 in
-    let e : w * 2 ^ bits area + rest area 8 ≡ number area * 256 ^ 8 = rw is8 at whole in
-    let H : Held area 0 v w = record { exact = omega (arith, e); zeros = mod-one w; small = rw is8 at small } in
+    let H : Held area 0 v w = record { exact = omega (arith, whole); zeros = mod-one w; small = small } in
     record {
       over =
           record {

@@ -7,7 +7,8 @@ use mathlib.Core.Path.{◌≡◌, refl, sym, ap, subst}
 use mathlib.Core.Bool.{true, false, not}
 use mathlib.Core.List.{List}
 use denote.Ref.{Bor}
-use lib.ListN.{get_or}
+use lib.ListN.{length, take, get_or, length-take}
+use Rattle.std.specs.Prelude.{Option, Some, None}
 use Rattle.rfc6386.specs.Decoder.{split}
 use Rattle.rfc6386.specs.Reads.{Rd, ret, ◌>>=◌, bool, when}
 use Rattle.bool_decoder.specs.Window.{Over, Good, Ran}
@@ -19,8 +20,8 @@ use Rattle.bool_decoder.proofs.Steps.{good}
 use Rattle.bool_decoder.proofs.Over.{chosen_zero, limit_is, as_it_is}
 
 -- what a decoder may read its window may
-pub ahead : {t : List ℕ} {i n : ℕ} (d : BoolDecoder) → ReadsAhead t i n d → Ahead d.area.now t i n d.window
-ahead d a = record { order = a.order; inside = a.inside; good = good d a.room }
+pub ahead : {t : List ℕ} {i : ℕ} (d : BoolDecoder) → ReadsAhead t i d → Ahead d.area.now t i d.window
+ahead d a = record { order = a.order; good = good d a.room }
 
 module _ {area t : List ℕ} {i : ℕ} {d : Window} where
   pub rises : {j : ℕ} {e : Window} → Quiet area t i d j e → i ≤ j
@@ -36,10 +37,9 @@ module _ {area t : List ℕ} {i : ℕ} {d : Window} where
   few (past q r) = omega (arith, few q, r.most)
 
   -- what is left may be read
-  pub onward : {j : ℕ} {e : Window} {n : ℕ} → j ≤ n → Ahead area t i n d → Quiet area t i d j e → Ahead area t j n e
+  pub onward : {j : ℕ} {e : Window} → j ≤ length t → Ahead area t i d → Quiet area t i d j e → Ahead area t j e
   onward h g q = record {
     order = h;
-    inside = g.inside;
     good = record { over = over_of g.good.over q; room = omega (arith, few q, rises q, g.good.room) };
   }
 
@@ -49,13 +49,13 @@ module _ {area t : List ℕ} {i : ℕ} {d : Window} where
 
 module _ {t : List ℕ} {i : ℕ} {d e : BoolDecoder} {j : ℕ} (q : Quiet d.area.now t i d.window j e.window) where
   -- after zeros a decoder may read what is left
-  pub left : {n : ℕ} → j ≤ n → ReadsAhead t i n d → ReadsAhead t j n e
-  left h a = record { order = h; inside = a.inside; room = (onward h (ahead d a) q).good.room }
+  pub left : j ≤ length t → ReadsAhead t i d → ReadsAhead t j e
+  left h a = record { order = h; room = (onward h (ahead d a) q).good.room }
 
 -- a search is one over an area that is the decoder's
-pub over_area : {t : List ℕ} {i n j : ℕ} {d e : BoolDecoder} {at : Bor (List ℕ)} → d.area ≡ at → Seeks t i n d j e
-    → Finds at.now t i n d.window j e.window
-over_area {t} {i} {n} {j} {d} {e} same s = subst (λ (at : Bor (List ℕ)). Finds at.now t i n d.window j e.window) same s.finds
+pub over_area : {t : List ℕ} {k : Option ℕ} {d e : BoolDecoder} {at : Bor (List ℕ)} → d.area ≡ at → Seeks t d k e
+    → Finds at.now t d.window k e.window
+over_area {t} {k} {d} {e} same s = subst (λ (at : Bor (List ℕ)). Finds at.now t d.window k e.window) same s.finds
 
 -- zeros that follow over the same area are joined
 pub join_over : {t : List ℕ} {at to : Bor (List ℕ)} {i j k : ℕ} {d e f : Window} → to ≡ at → Quiet at.now t i d j e → Quiet to.now t j e k f
@@ -83,55 +83,49 @@ module _ {area : List ℕ} (d : Window) where
       (λ k. record { range = r k; limit = d.limit; value = d.value; doublings = d.doublings; bools = b k }) here
 
   -- then a 0 that the limit tells, at the entry j
-  pub goes : {t : List ℕ} {i n j : ℕ} (j' low next : ℕ) → Ahead area t i n d → j < n → j' ≡ j + 1
+  pub goes : {t : List ℕ} {i j : ℕ} (j' low next : ℕ) → Ahead area t i d → j < length t → j' ≡ j + 1
       → Quiet area t i d j (narrowed d low (j - i)) → next ≡ low * get_or t j 0 / 256 → next * 256 ≤ low * 255 → d.limit ≤ next + 1
       → Quiet area t i d j' (narrowed d next (j' - i))
-  goes {t} {i} {n} {j} j' low next g lt e q is falls tells =
+  goes {t} {i} {j} j' low next g lt e q is falls tells =
       let one : Good area (narrowed d low (j - i)) 1 = fewer (omega arith) (onward (omega arith) g q).good in
       let more : j + 1 - i ≡ j - i + 1 = omega (arith, rises q) in
       rw (e, more) (past q (told low (j - i) (get_or t j 0) next one is falls tells))
 
-  -- so many bools are counted
-  pub counts : {t : List ℕ} {i n j : ℕ} (low : ℕ) → j ≤ n → Ahead area t i n d → Quiet area t i d j (narrowed d low (j - i))
-      → d.bools + (j - i) ≤ 16777216
-  counts low h g q = omega (arith, (onward h g q).good.room)
-
 -- the search as a tree: n entries from i on
-unfoldable pub sought : List ℕ → ℕ → ℕ → Rd ℕ
-sought t i zero = ret i
-sought t i (suc n) = bool (get_or t i 0) >>= (λ b. when (not b) (sought t (suc i) n) i)
+unfoldable pub sought : List ℕ → ℕ → ℕ → Rd (Option ℕ)
+sought t i zero = ret None
+sought t i (suc n) = bool (get_or t i 0) >>= (λ b. when (not b) (sought t (suc i) n) (Some i))
 
-module _ {area t : List ℕ} {i : ℕ} {d : Window} where
+module _ {area t : List ℕ} {d : Window} where
   -- zeros lead on to what is sought after them
-  leads : {j : ℕ} {e : Window} → Quiet area t i d j e → (m n : ℕ) → j + m ≡ i + n → {k b : ℕ} {f : Window}
+  leads : {i j : ℕ} {e : Window} → Quiet area t i d j e → (m n : ℕ) → j + m ≡ i + n → {k : Option ℕ} {b : ℕ} {f : Window}
       → Ran (sought t j m) area e k f b → (c : ℕ) × Ran (sought t i n) area d k f c
   unfolding sought
-  leads here m n s {b} r = let same : m ≡ n = omega arith in (b, rw same at r)
+  leads here m n s {b = b} r = let same : m ≡ n = omega arith in (b, rw same at r)
   leads (past {j} q z) m n s r = leads q (suc m) n (omega arith) (then _ z (on _ refl (rw (add-one j) at r)))
 
   -- a search is the tree's
-  pub finds_is : {n j : ℕ} {e : Window} → i ≤ n → Over area d → Finds area t i n d j e
-      → (c : ℕ) × Ran (sought t i (n - i)) area d j e c
+  pub finds_is : {k : Option ℕ} {e : Window} → Over area d → Finds area t d k e → (c : ℕ) × Ran (sought t 0 (length t)) area d k e c
   unfolding sought
-  finds_is {n} h o (hit {j} lt q r) = leads q (suc (n - j - 1)) (n - i) (omega (arith, rises q)) (then _ r (off _ refl r.over))
-  finds_is {n} h o (miss q) = leads q 0 (n - i) (omega arith) (done (over_of o q))
+  finds_is o (hit {j} lt q r) = leads q (suc (length t - j - 1)) (length t) (omega (arith, lt)) (then _ r (off _ refl r.over))
+  finds_is o (miss q) = leads q 0 (length t) (omega arith) (done (over_of o q))
 
--- a search that ended before n
-pub record Hit (area t : List ℕ) (i : ℕ) (d : Window) (j : ℕ) (e : Window) : Type 0 where
+-- a search that found the place j
+pub record Hit (area t : List ℕ) (d : Window) (j : ℕ) (e : Window) : Type 0 where
+  pub within : j < length t
   pub from : Window
-  pub quiet : Quiet area t i d j from
+  pub quiet : Quiet area t 0 d j from
   pub set : Ran (bool (get_or t j 0)) area from true e 1
 
-module _ {area t : List ℕ} {i n : ℕ} {d : Window} where
-  -- where a search ends
-  pub lies : {j : ℕ} {e : Window} → Finds area t i n d j e → (i ≤ j) × (j ≤ n)
-  lies (hit lt q r) = (rises q, omega arith)
-  lies (miss q) = (rises q, omega arith)
+module _ {area t : List ℕ} {d : Window} where
+  pub found : {j : ℕ} {e : Window} → Finds area t d (Some j) e → Hit area t d j e
+  found (hit {e = e} lt q r) = record { within = lt; from = e; quiet = q; set = r }
 
-  pub found : {j : ℕ} {e : Window} → Finds area t i n d j e → j < n → Hit area t i d j e
-  found (hit {j} {e} lt q r) h = record { from = e; quiet = q; set = r }
-  found (miss q) h = absurd (omega arith)
+  pub nowhere : {e : Window} → Finds area t d None e → Quiet area t 0 d (length t) e
+  nowhere (miss q) = q
 
-  pub nowhere : {j : ℕ} {e : Window} → Finds area t i n d j e → n ≤ j → Quiet area t i d n e
-  nowhere (hit lt q r) h = absurd (omega arith)
-  nowhere (miss q) h = q
+-- a place that is found in a part of at most k entries
+pub place : {k j : ℕ} (l : List ℕ) {m : Option ℕ} {d e : BoolDecoder} → Seeks (take k l) d m e → m ≡ Some j → j < k
+place {k} {j} l {m} {d} {e} s is =
+    let h = found (subst (λ (m : Option ℕ). Finds d.area.now (take k l) d.window m e.window) is s.finds) in
+    omega (arith, h.within, length-take k l)

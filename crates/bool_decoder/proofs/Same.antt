@@ -11,7 +11,7 @@ use Prim.Native.Nat.{ℕ, suc, ◌+◌, ◌-◌, ◌*◌, ◌/◌, ◌%◌, ◌^
 use native.Mathlib.Nat.{ℕ_set, lt_of_not-le, le_antisymm, mul_assoc, mul-le-mul_left, pow-suc}
 use native.Mathlib.Omega.{arith}
 use lib.Pow.{pow_pos, pow_mono}
-use Rattle.std.specs.Prelude.{Result, Ok, Err}
+use Rattle.std.specs.Prelude.{Option, Result, Ok, Err}
 use Rattle.std.specs.Coded.{le_prop}
 use Rattle.rfc6386.specs.Decoder.{State, Out, bits, past, pick}
 use Rattle.rfc6386.specs.Reads.{Rd, bool, lit, sint}
@@ -22,9 +22,9 @@ use Rattle.bool_decoder.specs.Window as W
 use Rattle.bool_decoder.specs.Model.{state_of, position_of, past_of, Ran, Passed, Lit, Sgn, Fresh, Seen}
 use Rattle.bool_decoder.specs.Refusal.{number_of, refused_by}
 use Rattle.bool_decoder.specs.Answer.{Meets, Allows, Refuses, BoolMeets, UintMeets, SintMeets}
-use Rattle.bool_decoder.specs.Quiet.{ReadsAhead, Seeks}
+use Rattle.bool_decoder.specs.Quiet.{Seeks}
 use Rattle.bool_decoder.proofs.Laws.{window_is}
-use Rattle.bool_decoder.proofs.Quiet.{ahead, finds_is}
+use Rattle.bool_decoder.proofs.Quiet.{finds_is}
 use Rattle.bool_decoder.proofs.Steps.{holder}
 use Rattle.bool_decoder.specs.declared.Window.{Window}
 use Rattle.bool_decoder.specs.declared.BoolDecoder.{BoolDecoder}
@@ -123,14 +123,11 @@ module _ {d e f : BoolDecoder} where
   same_int = same_read
 
   -- seek
-  pub same_found : {t : List ℕ} {i n j k : ℕ} → ReadsAhead t i n d → Seeks t i n d j e → Seeks t i n d k f → (j ≡ k) × (e ≡ f)
-  same_found a p q =
-      let o = ahead d a in
-      let x = (finds_is o.order o.good.over p.finds).1 in
-      let y = (finds_is o.order o.good.over q.finds).1 in
-      let x' = holder {d = d} p.area x in
-      let y' = holder {d = d} q.area y in
-      same_read x' y'
+  pub same_found : {t : List ℕ} {m n : Option ℕ} → Seeks t d m e → Seeks t d n f → (m ≡ n) × (e ≡ f)
+  same_found p q =
+      let x = (finds_is d.over p.finds).1 in
+      let y = (finds_is d.over q.finds).1 in
+      same_read (holder {d = d} p.area x) (holder {d = d} q.area y)
 
 -- pos
 pub same_position : (d : BoolDecoder) {r q : ℕ} → r ≡ position_of d → q ≡ position_of d → r ≡ q

@@ -1,14 +1,15 @@
 -- The bytes still to come, as a number: one byte less at each step, and 0 past the end. By induction on the area.
 use mathlib.Core.Path.{◌≡◌, refl, sym, ap, ◌∙◌, subst}
-use mathlib.Core.List.{List, [], ◌∷◌}
-use Prim.Native.Nat.{ℕ, zero, suc, ◌+◌, ◌*◌, ◌^◌, ◌<◌}
+use mathlib.Core.List.{List, [], ◌∷◌, ◌++◌}
+use Prim.Native.Nat.{ℕ, zero, suc, ◌+◌, ◌*◌, ◌^◌, ◌<◌, ◌≤◌, min}
 use native.Mathlib.Nat.{add-mul, mul_assoc, mul_comm, mul_right_comm, mul-suc, zero-mul, pow-suc, mul-one, mul-lt-mul_of_pos_right}
 use native.Mathlib.Numerals.{add-one}
 use native.Mathlib.Omega.{arith}
 use lib.Arith.{digits_lt}
 use lib.Pow.{pow-add}
 use lib.Dec.{lit<}
-use lib.ListN.{length, get_or, drop}
+use lib.ListN.{length, get_or, take, drop, replicate}
+use Rattle.std.specs.Int.{w64, from_be_bytes}
 use Rattle.rfc6386.specs.Decoder.{number, bits}
 use Rattle.bool_decoder.specs.Window.{rest}
 
@@ -73,5 +74,56 @@ more area v at e =
     ∙ sym (mul_assoc (number area) (256 ^ at) 256) in
     omega (arith, rest_step area at, add-mul (v * 256) y b, mul_right_comm v 256 b)
 
-pub more_lt : (v y at : ℕ) → v < 256 ^ at → y < 256 → v * 256 + y < 256 ^ (at + 1)
-more_lt v y at h hy = rw (add-one at, pow-suc 256 at) (digits_lt h hy)
+-- the first eight bytes as a number, of a list that has them as its own: `more` eight times
+eight : (area first : List ℕ) → ((i : ℕ) → get_or area i 0 < 256) → ((i : ℕ) → i < 8 → get_or first i 0 ≡ get_or area i 0)
+    → (from_be_bytes w64 first < 256 ^ 8) × (from_be_bytes w64 first * 2 ^ bits area + rest area 8 ≡ number area * 256 ^ 8)
+eight area first f same =
+    let y : ℕ → ℕ = λ i. get_or area i 0 in
+    let v₁ = 0 * 256 + y 0 in
+    let v₂ = v₁ * 256 + y 1 in
+    let v₃ = v₂ * 256 + y 2 in
+    let v₄ = v₃ * 256 + y 3 in
+    let v₅ = v₄ * 256 + y 4 in
+    let v₆ = v₅ * 256 + y 5 in
+    let v₇ = v₆ * 256 + y 6 in
+    let v₈ = v₇ * 256 + y 7 in
+    let e₀ : 0 * 2 ^ bits area + rest area 0 ≡ number area * 256 ^ 0 = omega (arith, rest_zero area) in
+    let e₄ = more area v₃ 3 (more area v₂ 2 (more area v₁ 1 (more area 0 0 e₀))) in
+    let e₈ = more area v₇ 7 (more area v₆ 6 (more area v₅ 5 (more area v₄ 4 e₄))) in
+    let is : from_be_bytes w64 first ≡ v₈ = omega (
+      arith,
+      same 0 (lit< tt),
+      same 1 (lit< tt),
+      same 2 (lit< tt),
+      same 3 (lit< tt),
+      same 4 (lit< tt),
+      same 5 (lit< tt),
+      same 6 (lit< tt),
+      same 7 (lit< tt),
+    ) in
+    (omega (arith, is, f 0, f 1, f 2, f 3, f 4, f 5, f 6, f 7), rw is e₈)
+
+zeros : (k j : ℕ) → get_or {A = ℕ} (replicate k 0) j 0 ≡ 0
+zeros zero j = refl
+zeros (suc k) zero = refl
+zeros (suc k) (suc j) = zeros k j
+
+-- the first n entries of a list, the whole of it where one asks for more, before zeros
+padded : (n : ℕ) (l z : List ℕ) (i : ℕ) → n ≤ length l → n ≤ length z → ((j : ℕ) → get_or z j 0 ≡ 0) → (n ≤ i → n ≡ length l)
+    → get_or (take n l ++ drop n z) i 0 ≡ get_or l i 0
+padded zero [] z i h k f e = f i
+padded zero (x ∷ l) z i h k f e = absurd (omega (arith, e (omega arith)))
+padded (suc n) [] z i h k f e = absurd (omega (arith, h))
+padded (suc n) (x ∷ l) [] i h k f e = absurd (omega (arith, k))
+padded (suc n) (x ∷ l) (y ∷ z) zero h k f e = refl
+padded (suc n) (x ∷ l) (y ∷ z) (suc i) h k f e =
+    padded n l z i (omega (arith, h)) (omega (arith, k)) (λ j. f (suc j)) (λ g. omega (arith, e (omega (arith, g))))
+
+-- the first bytes of an area, or all of them and then zeros, as the window that it starts with
+pub starting : (area : List ℕ) {new : List ℕ} {n v : ℕ} → ((i : ℕ) → get_or area i 0 < 256) → n ≡ min (length area) 8 → new ≡ take n area
+    → v ≡ from_be_bytes w64 (new ++ drop n (replicate 8 0))
+    → (v < 256 ^ 8) × (v * 2 ^ bits area + rest area 8 ≡ number area * 256 ^ 8)
+starting area {new} {n} f is same told =
+    let eq : (i : ℕ) → i < 8 → get_or (new ++ drop n (replicate 8 0)) i 0 ≡ get_or area i 0 = λ i h.
+    rw same (padded n area (replicate 8 0) i (omega (arith, is)) (omega (arith, is)) (zeros 8) (λ g. omega (arith, is, g, h))) in
+    rw told (eight area (new ++ drop n (replicate 8 0)) f eq)

@@ -220,10 +220,10 @@ impl<'a> BoolDecoder<'a> {
     pub fn new(area: &'a [u8]) -> Self
         ensures { Fresh area.entry result }
     {
-        let mut value: u64 = 0;
-        for at in 0..8 {
-            value = value * 256 + byte_at(area, at) as u64;
-        }
+        let mut first = [0; 8];
+        let n = area.len().min(8);
+        first[..n].copy_from_slice(&area[..n]);
+        let value = u64::from_be_bytes(first);
         let window = Window {
             range: BoolDecoder::START_RANGE,
             limit: limit_of(value),

@@ -1,6 +1,8 @@
 // The bools of a table of chances, up to the first that is set. Nearly all are 0, and most of those are told by the limit alone, with no
-// look at the window: these are passed over, four at a time where four are left.
-ghost use Rattle.std.specs.Prelude.{◌≡◌, ◌-◌, ◌*◌, ◌/◌, ◌<◌, ◌≤◌};
+// look at the window: these are passed over, four at a time where four are left. Below `seek` the table goes
+// with a place in it, since slices of what is left cost more (docs/SPEED.md).
+ghost use Rattle.std.specs.Prelude.{◌≡◌, ◌*◌, ◌/◌, ◌<◌, ◌≤◌, length};
+ghost use Rattle.bool_decoder.specs.Model.{Room};
 ghost use Rattle.bool_decoder.specs.Quiet.{ReadsAhead, Skips, Seeks};
 
 use crate::BoolDecoder;
@@ -16,11 +18,11 @@ fn step(low: u32, p: u8) -> u32
 impl BoolDecoder<'_> {
     // Zeros that the limit tells, four at a time: the range falls, so the last of them tells for all.
     #[inline(always)]
-    fn fours(&mut self, table: &[u8], from: usize, end: usize) -> usize
-        requires { ReadsAhead table.now from end self.old }
-        ensures { Skips table.now from end self.old result self.new }
+    fn fours(&mut self, table: &[u8], from: usize) -> usize
+        requires { ReadsAhead table.now from self.old }
+        ensures { Skips table.now from self.old result self.new }
     {
-        let stop = usize::saturating_sub(end, 3);
+        let stop = table.len().saturating_sub(3);
         let bound = self.window.limit - 1;
         let mut low = self.window.range - 1;
         let mut i = from;
@@ -43,15 +45,15 @@ impl BoolDecoder<'_> {
 
     // The same one at a time.
     #[inline(always)]
-    fn singles(&mut self, table: &[u8], from: usize, end: usize) -> usize
-        requires { ReadsAhead table.now from end self.old }
-        ensures { Skips table.now from end self.old result self.new }
+    fn singles(&mut self, table: &[u8], from: usize) -> usize
+        requires { ReadsAhead table.now from self.old }
+        ensures { Skips table.now from self.old result self.new }
     {
         let bound = self.window.limit - 1;
         let mut low = self.window.range - 1;
         let mut i = from;
         // By index: the place where it stops is the answer.
-        while i < end {
+        while i < table.len() {
             let next = step(low, table[i]);
             if next < bound {
                 break;
@@ -66,28 +68,28 @@ impl BoolDecoder<'_> {
 
     // All of them, up to the first that needs the window.
     #[inline(always)]
-    fn pass(&mut self, table: &[u8], from: usize, end: usize) -> usize
-        requires { ReadsAhead table.now from end self.old }
-        ensures { Skips table.now from end self.old result self.new }
+    fn pass(&mut self, table: &[u8], from: usize) -> usize
+        requires { ReadsAhead table.now from self.old }
+        ensures { Skips table.now from self.old result self.new }
     {
-        let at = self.fours(table, from, end);
-        self.singles(table, at, end)
+        let at = self.fours(table, from);
+        self.singles(table, at)
     }
 
-    // Reads up to the first entry of the table from `from` on whose bool is set, and gives that entry; or all, and gives `end`.
+    // Reads up to the first entry of the table whose bool is set, and gives its place; or all of them.
     #[inline(always)]
-    pub fn seek(&mut self, table: &[u8], from: usize, end: usize) -> usize
-        requires { ReadsAhead table.now from end self.old }
-        ensures { Seeks table.now from end self.old result self.new }
+    pub fn seek(&mut self, table: &[u8]) -> Option<usize>
+        requires { Room self.old (length table.now) }
+        ensures { Seeks table.now self.old result self.new }
     {
-        let mut i = from;
+        let mut i = 0;
         // By index: zeros are passed over by more than one.
-        while i < end {
+        while i < table.len() {
             if self.read_bit(table[i]) {
-                return i;
+                return Some(i);
             }
-            i = self.pass(table, i + 1, end);
+            i = self.pass(table, i + 1);
         }
-        i
+        None
     }
 }

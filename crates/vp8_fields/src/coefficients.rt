@@ -17,14 +17,11 @@ pub fn parse_token_prob_update(dec: &mut BoolDecoder, coeff_probs: CoeffProbs) -
     let table = vp8_probs::coeff_update_probs();
     // A copy that nothing points to, so that the loop keeps it in registers.
     let mut local = *dec;
-    // By index: the search moves it.
     let mut i = 0;
-    while i < 1056 {
-        i = local.seek(&table, i, 1056);
-        if i < 1056 {
-            out.v[i] = local.read_byte(8);
-            i += 1;
-        }
+    while let Some(n) = local.seek(&table[i..]) {
+        i += n;
+        out.v[i] = local.read_byte(8);
+        i += 1;
     }
     *dec = local;
     Read {

@@ -2,6 +2,7 @@
 use Prim.Native.Nat.{◌+◌, ◌≤◌}
 use native.Mathlib.Omega.{arith}
 use mathlib.Core.Path.{refl}
+use lib.ListN.{length}
 use Rattle.bool_decoder.proofs.Over.{limit_low}
 use Rattle.bool_decoder.proofs.Quiet.{ahead, starts, goes, rises, over_of}
 use Rattle.bool_decoder.proofs.BoolDecoder.fours.Goals as goal
@@ -18,7 +19,7 @@ pub loop-i-preserved : goal.loop-i-preserved
 loop-i-preserved c = let d = c.args.self.now.window in
     let may = ahead c.args.self.now c.requires in
     let inv = c.loop-i.invariant in
-    let left : c.loop-i.i + 4 ≤ c.args.end = omega (arith, c.loop-i-test.true, c.saturating_sub-stop.ensures) in
+    let left : c.loop-i.i + 4 ≤ length c.args.table.now = omega (arith, c.loop-i-test.true, c.saturating_sub-stop.ensures) in
     let r1 = c.step-a.ensures in
     let r2 = c.step-b.ensures in
     let r3 = c.step-c.ensures in

@@ -11,7 +11,7 @@ use Rattle.vp8_probs.specs.Tables.{coeff_update}
 use Rattle.vp8_records.specs.declared.CoeffProbs.{CoeffProbs}
 use Rattle.bool_decoder.proofs.Each.{begin, end}
 use Rattle.bool_decoder.proofs.Made.{same, makes}
-use Rattle.bool_decoder.proofs.Quiet.{lies, over_area}
+use Rattle.bool_decoder.proofs.Quiet.{place}
 use Rattle.bool_decoder.proofs.Steps.{held, holder, passed}
 use Rattle.rfc6386.specs.Coded.{coefficients}
 use Rattle.rfc6386.specs.Call.{coeffs_over}
@@ -20,49 +20,48 @@ use Rattle.vp8_fields.proofs.InPlace.{leaf}
 use Rattle.vp8_fields.proofs.Turns.{flagged, reached, ended, written}
 use Rattle.vp8_fields.proofs.coefficients.parse_token_prob_update.Goals as goal
 
-pub loop-i-init : goal.loop-i-init
-loop-i-init c = record { turn = begin _ c.args.dec.now.over; area = refl }
+pub loop-n-init : goal.loop-n-init
+loop-n-init c = record { turn = begin _ c.args.dec.now.over; area = refl }
+
+pub overflow_add-i : goal.overflow_add-i
+overflow_add-i c = record { fits = omega (arith, place _ c.seek.ensures c.in-Some.is) }
 
 pub read_byte-requires : goal.read_byte-requires
 read_byte-requires c =
-    let long : length c.args.coeff_probs.v ≡ 1056 = search rules in
-    let inv = c.loop-i.invariant in
-    let lt = c.if-i-lt1056.true in
-    let f = over_area inv.area (rw c.coeff_update_probs-table.ensures.0 at c.seek-i.ensures) in
-    let r = reached coeff_update f lt (omega (arith, long)) inv.turn in
-    (omega arith, omega (arith, r.0.set.most, r.1.ran.most, c.requires, lt))
+    let xs : length c.args.coeff_probs.v ≡ 1056 = search rules in
+    let t : length c.coeff_update_probs-table.result ≡ 1056 = search rules in
+    let inv = c.loop-n.invariant in
+    let r = reached c.coeff_update_probs-table.ensures.0 t xs inv.area inv.turn c.seek.ensures c.in-Some.is in
+    (omega arith, omega (arith, r.0.set.most, r.2.ran.most, c.requires, r.1))
 
-pub loop-i-smaller-then-i-lt1056 : goal.loop-i-smaller-then-i-lt1056
-loop-i-smaller-then-i-lt1056 c = omega (arith, c.if-i-lt1056.true, (lies c.seek-i.ensures.finds).0)
+pub bounds-out-i : goal.bounds-out-i
+bounds-out-i c = omega (arith, place _ c.seek.ensures c.in-Some.is)
 
-pub loop-i-preserved-then-i-lt1056 : goal.loop-i-preserved-then-i-lt1056
-loop-i-preserved-then-i-lt1056 c =
-    let long : length c.args.coeff_probs.v ≡ 1056 = search rules in
-    let inv = c.loop-i.invariant in
-    let lt = c.if-i-lt1056.true in
-    let f = over_area inv.area (rw c.coeff_update_probs-table.ensures.0 at c.seek-i.ensures) in
-    let r = reached coeff_update f lt (omega (arith, long)) inv.turn in
-    let area = c.seek-i.ensures.area ∙ inv.area in
+pub overflow_add-i-in-Some : goal.overflow_add-i-in-Some
+overflow_add-i-in-Some c = record { fits = omega (arith, place _ c.seek.ensures c.in-Some.is) }
+
+pub loop-n-smaller : goal.loop-n-smaller
+loop-n-smaller c = omega (arith, place _ c.seek.ensures c.in-Some.is)
+
+pub loop-n-preserved : goal.loop-n-preserved
+loop-n-preserved c =
+    let xs : length c.args.coeff_probs.v ≡ 1056 = search rules in
+    let t : length c.coeff_update_probs-table.result ≡ 1056 = search rules in
+    let inv = c.loop-n.invariant in
+    let r = reached c.coeff_update_probs-table.ensures.0 t xs inv.area inv.turn c.seek.ensures c.in-Some.is in
+    let area = c.seek.ensures.area ∙ inv.area in
     let n = c.read_byte.ensures.ran in
-    record { turn = written coeff_update (omega (arith, long, lt)) r.1 r.0.set (held area n); area = n.over ∙ area }
-
-pub loop-i-preserved : goal.loop-i-preserved
-loop-i-preserved c =
-    let long : length c.args.coeff_probs.v ≡ 1056 = search rules in
-    let inv = c.loop-i.invariant in
-    let f = over_area inv.area (rw c.coeff_update_probs-table.ensures.0 at c.seek-i.ensures) in
-    record {
-      turn = ended coeff_update f c.if-i-lt1056.false (omega (arith, long)) inv.turn;
-      area = c.seek-i.ensures.area ∙ inv.area;
-    }
+    record { turn = written coeff_update _ _ (omega (arith, r.1, xs)) r.2 r.0.set (held area n); area = n.over ∙ area }
 
 pub returns : goal.returns
 unfolding coeffs_over coefficients coeff_update
 returns c =
-    let long : length c.args.coeff_probs.v ≡ 1056 = search rules in
-    let inv = c.loop-i.invariant in
+    let xs : length c.args.coeff_probs.v ≡ 1056 = search rules in
+    let t : length c.coeff_update_probs-table.result ≡ 1056 = search rules in
+    let inv = c.loop-n.invariant in
+    let u = ended c.coeff_update_probs-table.ensures.0 t xs inv.area inv.turn c.seek.ensures c.in_default.is in
     let wrap : List ℕ → CoeffProbs = λ v. record { v = v } in
     passed refl c.past.ensures
-    (holder inv.area
-    (same (leaf wrap _ coded coeff_update 0 1056 (λ i x. ap (λ (k : ℕ). flagged coeff_update k x) (sym (zero-add i))) _ long (omega arith))
-    (makes wrap (end _ inv.turn long c.loop-i-test.false))))
+    (holder (c.seek.ensures.area ∙ inv.area)
+    (same (leaf wrap _ coded coeff_update 0 1056 (λ i x. ap (λ (k : ℕ). flagged coeff_update k x) (sym (zero-add i))) _ xs (omega arith))
+    (makes wrap (end _ u xs (omega arith)))))
