@@ -3,14 +3,16 @@
 // The inner reads are marked to be inlined: a decoder that no call is handed a pointer to stays in registers.
 #![tactic(auto)]
 
-ghost use Rattle.std.specs.Prelude.{◌≡◌, ◌+◌, ◌-◌, ◌*◌, ◌^◌, ◌<◌, ◌≤◌};
+ghost use Rattle.std.specs.Prelude.{◌≡◌, ◌+◌, ◌-◌, ◌*◌, ◌^◌, ◌<◌, ◌≤◌, min};
 ghost use Rattle.rfc6386.specs.Decoder.{split, refusal_of};
 ghost use Rattle.rfc6386.specs.Reads.{bit, signed};
 ghost use Rattle.bool_decoder.specs.Window.{Held, v_of, v_after, limit_of, Over};
 ghost use Rattle.bool_decoder.specs.Refusal.{number_of, refused_by};
 
+use bare::{BareDecoder, within};
 use bitstream_utils::byte_at;
 
+pub mod bare;
 mod norm;
 pub mod reads;
 pub mod zeros;
@@ -145,8 +147,8 @@ pub fn signed_of(magnitude: u32, sign: bool) -> i32
     if sign { -value } else { value }
 }
 
-// Whether a read of this width is within the limits. A signed literal wants one bool beside its width. Public for the slow decoder, whose
-// limits they are too.
+// Whether a read of this width is within the limits, of either engine. A signed literal wants one bool beside its width. Public for who
+// wants to know it before a read.
 pub fn check_limits(size: usize, width: u32, extra: u32, bools: u32) -> Result<(), ReadRefusal>
     ensures { refused_by result ≡ refusal_of size width (width + extra) bools }
 {
@@ -166,6 +168,25 @@ pub fn check_limits(size: usize, width: u32, extra: u32, bools: u32) -> Result<(
     Ok(())
 }
 
+// In bits, of an area of `size` bytes: the doublings, or the area's end where that comes before them.
+fn position_at(size: usize, doublings: u32) -> u32
+    ensures { result ≡ min doublings (8 * size) }
+{
+    if ((doublings / 8) as usize) < size {
+        doublings
+    } else {
+        (size * 8) as u32
+    }
+}
+
+// In bits: how far the doublings have gone past the area's end, where the position has stopped; 0 before it.
+fn past_at(size: usize, doublings: u32) -> u32
+    ensures { result ≡ doublings - 8 * size }
+{
+    let at = position_at(size, doublings);
+    doublings - at
+}
+
 impl Window {
     ghost use Rattle.std.specs.Prelude.{◌≡◌};
     ghost use Rattle.rfc6386.specs.Decoder.{bits, position, past};
@@ -179,22 +200,19 @@ impl Window {
     }
 
     // In bits; it stops at the area's end.
+    #[tactic(auto, unfolding(rfc6386::specs::Decoder::position))]
     pub fn pos(self, area: &[u8]) -> u32
         ensures { result ≡ position (bits area.now) (state_of area.now self) }
     {
-        if ((self.doublings / 8) as usize) < area.len() {
-            self.doublings
-        } else {
-            (area.len() * 8) as u32
-        }
+        position_at(area.len(), self.doublings)
     }
 
-    // In bits: how far the doublings have gone past the area's end, where the position has stopped; 0 before it.
+    // In bits: how far the doublings have gone past the area's end.
+    #[tactic(auto, unfolding(rfc6386::specs::Decoder::past))]
     pub fn past(self, area: &[u8]) -> u32
         ensures { result ≡ past (bits area.now) (state_of area.now self) }
     {
-        let at = self.pos(area);
-        self.doublings - at
+        past_at(area.len(), self.doublings)
     }
 }
 
@@ -204,8 +222,8 @@ impl<'a> BoolDecoder<'a> {
     ghost use Rattle.bool_decoder.specs.Model.{bools_of, position_of, past_of, Room, Ran, Lit, Sgn, Fresh, Seen};
     ghost use Rattle.bool_decoder.specs.Answer.{BoolMeets, UintMeets, SintMeets};
 
-    // R at the start.
-    const START_RANGE: u32 = 255;
+    // R at the start, of either engine.
+    pub const START_RANGE: u32 = 255;
 
     // The widest literal that is read.
     const WIDEST: u32 = 31;
@@ -376,62 +394,89 @@ impl<'a> BoolDecoder<'a> {
         self.window.past(self.area)
     }
 
-    // The count follows the doublings, even where the position has stopped.
+    // The range, the whole part of V and the count.
     pub fn snapshot(&self) -> BoolDecoderState
         ensures { Seen self.now result }
     {
-        BoolDecoderState {
-            range: self.window.range as u8,
-            value: (self.window.value >> 56) as u8,
-            count: ((8 - self.window.doublings % 8) % 8) as u8,
-        }
+        BareDecoder::snapshot(self)
     }
 
-    // A value that was just read, with the bits past the end beside it.
+    // A value that was just read, with the bits past the end beside it. Inlined, so that a record is moved once.
+    #[inline(always)]
     pub fn with_past<T>(&self, value: T) -> Read<T>
         ensures value { result.value ≡ value }
         ensures past { result.past ≡ past_of self.now }
     {
-        Read {
-            value,
-            past: self.past(),
-        }
+        BareDecoder::with_past(self, value)
     }
 
-    // The bare decoder: each read refuses before any bool is read.
+    // The bare decoder, by the Rust's names: each read refuses before any bool is read.
     // A bool at a chance.
     pub fn read_bool_with_prob(&mut self, probability: u8) -> Result<Read<bool>, ReadRefusal>
         ensures { BoolMeets self.old probability result self.new }
     {
-        check_limits(self.area.len(), 1, 0, self.window.bools)?;
-        let value = self.read_bit(probability);
-        Ok(self.with_past(value))
+        self.ask_bool(probability)
     }
 
     // A bool at even chances.
+    #[tactic(auto, unfolding(rfc6386::specs::Reads::flag))]
     pub fn read_bool(&mut self) -> Result<Read<bool>, ReadRefusal>
         ensures { BoolMeets self.old 128 result self.new }
     {
-        check_limits(self.area.len(), 1, 0, self.window.bools)?;
-        let value = self.read_flag();
-        Ok(self.with_past(value))
+        within(self, 1, 0, |dec| dec.read_flag())
     }
 
     // A literal of nbits bools.
     pub fn read_uint(&mut self, nbits: u32) -> Result<Read<u32>, ReadRefusal>
         ensures { UintMeets self.old nbits result self.new }
     {
-        check_limits(self.area.len(), nbits, 0, self.window.bools)?;
-        let value = self.read_literal(nbits);
-        Ok(self.with_past(value))
+        self.ask_plain(nbits)
     }
 
     // A signed literal: nbits bools of magnitude, then a sign.
     pub fn read_sint(&mut self, nbits: u32) -> Result<Read<i32>, ReadRefusal>
         ensures { SintMeets self.old nbits result self.new }
     {
-        check_limits(self.area.len(), nbits, 1, self.window.bools)?;
-        let value = self.read_signed(nbits);
-        Ok(self.with_past(value))
+        self.ask_signed(nbits)
+    }
+}
+
+impl BareDecoder for BoolDecoder<'_> {
+    ghost use Rattle.bool_decoder.specs.Model.{state_of};
+
+    ghost area = { λ d. d.area };
+
+    ghost state = { state_of };
+
+    fn size(&self) -> usize {
+        self.area.len()
+    }
+
+    fn doublings(&self) -> u32 {
+        self.window.doublings
+    }
+
+    fn bools(&self) -> u32 {
+        self.window.bools
+    }
+
+    fn range(&self) -> u8 {
+        self.window.range as u8
+    }
+
+    fn whole(&self) -> u8 {
+        (self.window.value >> 56) as u8
+    }
+
+    fn take_bool(&mut self, prob: u8) -> bool {
+        self.read_bit(prob)
+    }
+
+    fn take_plain(&mut self, num_bits: u32) -> u32 {
+        self.read_literal(num_bits)
+    }
+
+    fn take_signed(&mut self, num_bits: u32) -> i32 {
+        self.read_signed(num_bits)
     }
 }

@@ -12,7 +12,7 @@ use Rattle.rfc6386.specs.Reads.{Rd, make, bit}
 use Rattle.bool_decoder.specs.declared.Read.{Read}
 use Rattle.bool_decoder.specs.declared.ReadRefusal.{ReadRefusal}
 use Rattle.bool_slow.specs.Asks.{Ask, Value, Bit, Plain, Signed, Refused, answered}
-use Rattle.bool_slow.specs.Bare.{Meets}
+use Rattle.bool_decoder.specs.Bare.{Meets}
 use Rattle.bool_slow.proofs.Tells.{meets_gives}
 use Rattle.text.specs.Digits.{decimal_of, signed_of}
 use Rattle.text.specs.Template.{ascii, filled}

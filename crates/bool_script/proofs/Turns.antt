@@ -11,7 +11,7 @@ use lib.ListN.{length, get_or}
 use borrow.Author.Tests.{ne_eqb}
 use Rattle.rfc6386.specs.Decoder.{State, Out, bits}
 use Rattle.bool_slow.specs.Asks.{Ask, Value, answered}
-use Rattle.bool_slow.specs.Bare.{Fresh}
+use Rattle.bool_decoder.specs.Bare.{Fresh}
 use Rattle.text.specs.Text.{Text, put, puts}
 use Rattle.text.proofs.Puts.{puts_append, puts_nil, one}
 use Rattle.bool_script.specs.Script.{ask_of, Leaves}

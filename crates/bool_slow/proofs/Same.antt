@@ -22,7 +22,7 @@ use Rattle.bool_slow.specs.declared.Hand.{Hand}
 use Rattle.bool_slow.specs.declared.SlowDecoder.{SlowDecoder}
 use Rattle.bool_slow.specs.Hand.{doublings_of, v_of, Over}
 use Rattle.bool_slow.specs.Hand as H
-use Rattle.bool_slow.specs.Bare.{Meets}
+use Rattle.bool_decoder.specs.Bare.{Meets}
 use Rattle.bool_slow.specs.Slow.{area_of, state_of, Fresh}
 
 -- the two bytes that stand for a v, with so many bytes in and so many bits shifted out

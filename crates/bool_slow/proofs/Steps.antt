@@ -8,7 +8,7 @@ use Rattle.rfc6386.specs.Decoder.{State}
 use Rattle.rfc6386.specs.Reads.{Rd, ret, ◌>>=◌}
 use Rattle.bool_decoder.specs.Engine as By
 use Rattle.bool_decoder.proofs.Chain as C
-use Rattle.bool_slow.specs.Bare.{over}
+use Rattle.bool_decoder.specs.Bare.{over}
 use Rattle.bool_slow.specs.Hand as H
 use Rattle.bool_slow.specs.Slow.{Room, Ran, Fresh}
 use Rattle.bool_slow.specs.declared.SlowDecoder.{SlowDecoder}

@@ -13,9 +13,9 @@ use Rattle.bool_decoder.specs.declared.ReadRefusal.{ReadRefusal}
 use Rattle.bool_decoder.specs.Model as W
 use Rattle.bool_slow.specs.declared.SlowDecoder.{SlowDecoder}
 use Rattle.bool_slow.specs.Asks.{Ask, Value, Bit, Plain, Signed, Gives}
-use Rattle.bool_slow.specs.Bare.{over, past_of, Fresh, Meets}
+use Rattle.bool_decoder.specs.Bare.{over, past_of, Fresh, Meets, shown_of}
 use Rattle.bool_slow.specs.Slow as S
-use Rattle.bool_slow.specs.Told.{shown_of, Told, tells, given, carried, Answers, Tells}
+use Rattle.bool_slow.specs.Told.{Told, tells, given, carried, Answers, Tells}
 use Rattle.bool_slow.specs.Told as T
 use Rattle.bool_slow.proofs.Answers.{allowed, refused}
 

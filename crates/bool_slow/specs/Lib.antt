@@ -1,8 +1,6 @@
--- What the slow decoder's contracts say: what its two bytes hold of V (Hand), what a decoder of any type answers (Bare), the slow one's
--- contracts (Slow), what a read of the bare decoder asks for and what the definition answers (Asks), and what a caller is told by a list of
--- reads (Told).
+-- What the slow decoder's contracts say: what its two bytes hold of V (Hand), its contracts (Slow), what a read of the bare decoder asks for
+-- and what the definition answers (Asks), and what a caller is told by a list of reads (Told).
 pub mod Hand
-pub mod Bare
 pub mod Slow
 pub mod Asks
 pub mod Told

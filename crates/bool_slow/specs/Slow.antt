@@ -1,10 +1,10 @@
 -- What the slow decoder's contracts say: those of the window's decoder, of the slow ones.
 use Rattle.std.specs.Prelude.{ℕ, ◌+◌, ◌≤◌, List, ℤ}
 use Rattle.std.specs.Borrow.{Bor}
-use Rattle.rfc6386.specs.Decoder.{bits, State, position}
+use Rattle.rfc6386.specs.Decoder.{State}
 use Rattle.rfc6386.specs.Reads.{Rd}
 use Rattle.bool_decoder.specs.Engine as By
-use Rattle.bool_slow.specs.Bare as Bare
+use Rattle.bool_decoder.specs.Bare as Bare
 use Rattle.bool_slow.specs.Hand as H
 use Rattle.bool_slow.specs.declared.SlowDecoder.{SlowDecoder}
 
@@ -26,13 +26,6 @@ Room d k = d.hand.bools + k ≤ 16777216
 -- the reads m from d give a and leave d', over the same area, with at most k bools
 abbrev pub Ran : {A : Type 0} → Rd A → SlowDecoder → A → SlowDecoder → ℕ → Type 0
 Ran m d a d' k = By.Ran (over d.area) m d.area.now d a d' k
-
--- the position, and how many bits d has gone past the area's end
-abbrev pub position_of : SlowDecoder → ℕ
-position_of d = position (bits d.area.now) (state_of d)
-
-abbrev pub past_of : SlowDecoder → ℕ
-past_of d = By.past_of (over d.area) d.area.now d
 
 abbrev pub Lit : ℕ → SlowDecoder → ℕ → SlowDecoder → Type 0
 Lit w d v d' = By.Lit (over d.area) d.area.now w d v d'

@@ -1,22 +1,18 @@
 -- What a caller is told by a list of reads of the bare decoder: of each read its answer, and what the decoder shows after it.
 use Rattle.std.specs.Prelude.{ℕ, ◌+◌, ◌≡◌, Bool, List, [], ◌∷◌, ℤ, Result, Ok, Err}
 use Rattle.std.specs.Borrow.{Bor}
-use Rattle.rfc6386.specs.Decoder.{State, bits, whole, count_of, position, past}
+use Rattle.rfc6386.specs.Decoder.{State, bits, past}
 use Rattle.rfc6386.specs.Reads.{bool, lit, sint}
+use Rattle.bool_decoder.specs.Bare.{Meets, past_of, shown_of}
 use Rattle.bool_decoder.specs.Model as W
 use Rattle.bool_decoder.specs.Refusal.{number_of}
+use Rattle.bool_decoder.specs.declared.bare.Shown.{Shown}
 use Rattle.bool_decoder.specs.declared.BoolDecoder.{BoolDecoder}
 use Rattle.bool_decoder.specs.declared.Read.{Read}
 use Rattle.bool_decoder.specs.declared.ReadRefusal.{ReadRefusal}
 use Rattle.bool_slow.specs.Asks.{Ask, ask_bool, ask_plain, ask_signed, answered, Value, Bit, Plain, Signed, Refused}
-use Rattle.bool_slow.specs.Bare.{Meets, past_of}
 use Rattle.bool_slow.specs.Slow as S
 use Rattle.bool_slow.specs.declared.SlowDecoder.{SlowDecoder}
-use Rattle.bool_slow.specs.declared.bare.Shown.{Shown}
-
--- what the definition shows of a state
-abbrev pub shown_of : ℕ → State → Shown
-shown_of l s = record { position = position l s; past = past l s; range = s.r; value = whole l s; count = count_of s; bools = s.n }
 
 -- a read's answer, the bits past the end that it carries, and what is shown after it
 pub record Told : Type 0 where

@@ -11,7 +11,7 @@ pub mod bare;
 ghost use Rattle.bool_slow.specs.Hand.{Over};
 
 use bitstream_utils::byte_at;
-use bool_decoder::signed_of;
+use bool_decoder::{BoolDecoder, signed_of};
 
 // Section 7.2, what the decoder maintains, but for the area: what can be kept of it while the area is moved or lent to others. Value and
 // the bytes not read yet are what is left of the coded number above the left end of the interval.
@@ -42,9 +42,6 @@ impl<'a> SlowDecoder<'a> {
     ghost use Rattle.rfc6386.specs.Reads.{bool};
     ghost use Rattle.bool_slow.specs.Slow.{Room, Ran, Lit, Sgn, Fresh};
 
-    // The range at the start.
-    const START_RANGE: u32 = 255;
-
     // Section 7.2, how the decoder is initialized; section 7.3, init_bool_decoder. The first 16 bits are in hand, and none is shifted out.
     pub fn init_bool_decoder(area: &'a [u8]) -> Self
         ensures { Fresh area.entry result }
@@ -53,7 +50,7 @@ impl<'a> SlowDecoder<'a> {
         let second = byte_at(area, 1) as u32;
         let hand = Hand {
             input: 2,
-            range: SlowDecoder::START_RANGE,
+            range: BoolDecoder::START_RANGE,
             value: first * 256 + second,
             bit_count: 0,
             bools: 0,

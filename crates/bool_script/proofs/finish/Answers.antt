@@ -3,8 +3,8 @@ use Prim.Native.Nat.{ℕ}
 use mathlib.Core.Path.{◌≡◌}
 use mathlib.Core.List.{[], ◌∷◌, ◌++◌}
 use Rattle.rfc6386.specs.Decoder.{State}
-use Rattle.bool_slow.specs.Told.{shown_of}
-use Rattle.bool_slow.specs.declared.bare.Shown.{Shown}
+use Rattle.bool_decoder.specs.Bare.{shown_of}
+use Rattle.bool_decoder.specs.declared.bare.Shown.{Shown}
 use Rattle.text.specs.Template.{ascii, filled}
 use Rattle.text.proofs.Puts.{then, worded}
 use Rattle.bool_script.specs.Line.{end_text}

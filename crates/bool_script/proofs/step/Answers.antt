@@ -1,6 +1,6 @@
 -- What the read gave, or its refusal, then the position and the bits past the end are the pieces of its text.
 use mathlib.Core.Path.{ap, ◌∙◌}
-use Rattle.bool_slow.specs.declared.bare.Shown.{Shown}
+use Rattle.bool_decoder.specs.declared.bare.Shown.{Shown}
 use Rattle.bool_script.proofs.OneRead.{then_refusal, then_place}
 use Rattle.bool_script.proofs.step.Goals.{in-Err, in_default}
 use Rattle.bool_script.proofs.step.Goals as goal
