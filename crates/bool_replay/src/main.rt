@@ -3,8 +3,7 @@
 // wrong.
 #![tactic(auto)]
 
-ghost use Rattle.std.specs.Prelude.{IfOk};
-ghost use Rattle.lines.specs.Read.{IsPrefixLen};
+ghost use Rattle.std.specs.Prelude.{◌≤◌, IfOk, length};
 
 use bool_script::{Engine, Line, input, line};
 use lines::CutShort;
@@ -118,14 +117,8 @@ impl Tally {
         let mut stored = [0u8; 32768];
         lines::take_byte(input).ok_or(CutShort)?;
         let script = input::take(input, &mut area, &mut reads)?.ok_or(CutShort)?;
-        let n = take_stored(input, &mut stored)?;
-        self.compare(
-            rt,
-            &area[..script.area],
-            &reads[..script.reads],
-            &stored[..n],
-            out,
-        );
+        let stored = take_stored(input, &mut stored)?;
+        self.compare(rt, script.area, script.reads, stored, out);
         Ok(())
     }
 
@@ -148,19 +141,17 @@ fn is_line(area: &[u8], reads: &[u8], stored: &[u8], engine: Engine, out: &mut L
     out.as_bytes() == stored
 }
 
-// A line from the list; its length.
-fn take_stored(input: &mut impl Read, stored: &mut [u8]) -> Result<usize, CutShort>
-    ensures { IfOk result (λ n. IsPrefixLen n stored.new) }
+// A line from the list.
+fn take_stored<'a>(input: &mut impl Read, buf: &'a mut [u8]) -> Result<&'a [u8], CutShort>
+    ensures { IfOk result (λ line. length line.now ≤ length buf.old) }
 {
     let n = usize::from(lines::take_le2(input)?.ok_or(CutShort)?);
-    lines::take_exact(input, stored, n)?;
-    Ok(n)
+    lines::take_exact(input, buf, n)
 }
 
 // The whole list. Nothing says that it ends, so the loop has a number of turns that no run uses up.
 fn run(rt: &impl Print, input: &mut impl Read) -> Result<Tally, Fault> {
-    let mut head = [0u8; 8];
-    if lines::take_exact(input, &mut head, 8).is_err() || head != *b"SBBOOLS1" {
+    if lines::take_array(input) != Ok(Some(*b"SBBOOLS1")) {
         return Err(Fault::Head);
     }
     let mut tally = Tally::default();

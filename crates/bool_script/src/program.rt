@@ -13,12 +13,7 @@ fn scripts(rt: &impl Print, input: &mut impl Read, engine: Engine) -> io::Result
         match input::take(input, &mut area, &mut reads) {
             Ok(Some(script)) => {
                 out.clear();
-                line(
-                    &area[..script.area],
-                    &reads[..script.reads],
-                    engine,
-                    &mut out,
-                );
+                line(script.area, script.reads, engine, &mut out);
                 out.byte(b'\n');
                 lines::show(rt, out.as_bytes())?;
             }

@@ -8,8 +8,8 @@ use vp8_records::{Mode, Parser};
 pub fn run(rt: &(impl Input + Print), mode: Mode) {
     let mut frame = [0u8; 65537];
     match lines::take_all(&mut rt.reader(), &mut frame) {
-        Ok(n) => {
-            let parsed = vp8_parser::parse_in(Parser::new(), &frame[..n], mode);
+        Ok(bytes) => {
+            let parsed = vp8_parser::parse_in(Parser::new(), bytes, mode);
             vp8_show::print::tell(rt, parsed);
         }
         Err(fault) => {

@@ -54,7 +54,7 @@ fn next(
     };
     let of_lengths = lines::take_byte(input).ok_or(CutShort)?;
     let size = lines::take_le4(input)?.ok_or(CutShort)?;
-    let count = lines::take_sized(input, file, size, 65536)?;
+    let file = lines::take_sized(input, file, size, 65536)?;
     let offsets = offsets
         .get_mut(..usize::from(of_offsets))
         .ok_or(Fault::TooLarge)?;
@@ -63,7 +63,7 @@ fn next(
         .ok_or(Fault::TooLarge)?;
     fill(offsets, 1000000);
     fill(lengths, 2000000);
-    let walked = ivf::walk(&file[..count], offsets, lengths);
+    let walked = ivf::walk(file, offsets, lengths);
     out.clear();
     line(out, walked, offsets, lengths);
     Ok(Some(()))

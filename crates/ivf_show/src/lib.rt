@@ -61,7 +61,7 @@ fn tell_file(rt: &impl Print, file: &[u8], mode: Mode) {
 pub fn run(rt: &(impl Input + Print), mode: Mode) {
     let mut file = [0u8; 65537];
     match lines::take_all(&mut rt.reader(), &mut file) {
-        Ok(n) => tell_file(rt, &file[..n], mode),
+        Ok(bytes) => tell_file(rt, bytes, mode),
         Err(fault) => {
             let _ = rt.println(fault);
         }

@@ -32,10 +32,14 @@ impl Run {
     }
 
     // The next record; none where the input ends, which it may not before a frame that is to be looked at.
-    fn next(&self, input: &mut impl Read, buffer: &mut [u8]) -> Result<Option<Record>, Fault>
-        ensures { IfOk result (λ next. IfSome next (IsFrameIn buffer.new)) }
+    fn next<'a>(
+        &self,
+        input: &mut impl Read,
+        buf: &'a mut [u8],
+    ) -> Result<Option<Record<'a>>, Fault>
+        ensures { IfOk result (λ next. IfSome next (IsFrameIn buf.old)) }
     {
-        let record = input::take(input, buffer)?;
+        let record = input::take(input, buf)?;
         if self.looks && record.is_none() {
             return Err(Fault::CutShort);
         }
@@ -63,9 +67,9 @@ fn records(rt: &impl Print, input: &mut impl Read) -> io::Result<()> {
     let mut out = Text::<[u8; 8192]>::new();
     for _ in 0..u64::MAX {
         match run.next(input, &mut buffer) {
-            Ok(Some(Record::Frame(count))) => {
+            Ok(Some(Record::Frame(bytes))) => {
                 out.clear();
-                run.frame(&buffer[..count], &mut out);
+                run.frame(bytes, &mut out);
                 lines::show(rt, out.as_bytes())?;
             }
             Ok(Some(Record::Fresh)) => run.parser = Parser::new(),

@@ -184,9 +184,9 @@ impl Replay {
     fn frame(&mut self, rt: &impl Print, input: &mut impl Read, mode: Mode) -> Result<(), Fault> {
         let mut buffer = [0u8; 65536];
         let [case, size] = list::numbers(input, &[1, 4])?;
-        let count = input::take_frame(input, &mut buffer, size)?;
+        let frame = input::take_frame(input, &mut buffer, size)?;
         let stored = self.take_stored(input).map_err(|_| Fault::Answer)?;
-        let parsed = vp8_parser::parse_in(self.parser, &buffer[..count], mode);
+        let parsed = vp8_parser::parse_in(self.parser, frame, mode);
         self.parser = parsed.parser;
         let found = vp8_compare::first(
             parsed,
@@ -203,12 +203,10 @@ impl Replay {
 // The whole list: eight letters, the kept numbers of a fresh parser, and records. Nothing says that it ends, so the loop has a number of
 // turns that no run uses up.
 fn run(rt: &impl Print, input: &mut impl Read) -> Result<Tally, Fault> {
-    let mut head = [0u8; 8];
-    if lines::take_exact(input, &mut head, 8).is_err() || head != *b"SBFRAME2" {
+    if lines::take_array(input) != Ok(Some(*b"SBFRAME2")) {
         return Err(Fault::Head);
     }
-    let mut fresh = [0u8; 1126];
-    lines::take_exact(input, &mut fresh, 1126)?;
+    let fresh = lines::take_array(input)?.ok_or(CutShort)?;
     if let Some(i) = vp8_compare::fresh_apart(&fresh) {
         return Err(Fault::Fresh(i));
     }
