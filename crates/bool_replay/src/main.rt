@@ -5,8 +5,9 @@
 
 ghost use Rattle.std.specs.Prelude.{◌≤◌, IfOk, length};
 
-use bool_script::{Engine, Line, input, line};
+use bool_script::{Engine, input, line};
 use lines::CutShort;
+use lines::run::Line;
 use std::fmt;
 use std::io::Read;
 

@@ -1,6 +1,8 @@
 // Input and output of the programs: a text to standard output, and numbers and runs of bytes from a reader.
-// No public function has a premise.
+// No public function has a premise but that a closure may be called.
 #![tactic(auto)]
+
+pub mod run;
 
 ghost use Rattle.std.specs.Prelude.{◌≡◌, ◌<◌, ◌≤◌, ◌↔◌, IfOk, IfErr, IsErrOf, length};
 

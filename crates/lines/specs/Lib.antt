@@ -1,0 +1,2 @@
+-- What the contracts cite: turns one after another.
+pub mod Turns
