@@ -20,36 +20,39 @@ pub struct Script<'a> {
 // What is wrong with a script.
 #[derive(Clone, Copy, PartialEq, Eq, Debug)]
 pub enum Fault {
-    // A number of bytes or of reads above the limit.
-    TooLarge,
-    // The input ends within it.
-    CutShort,
+    // A number of bytes or of reads is above the limit, or the input ends within it.
+    Input(lines::Fault),
     // A read of a kind that is not known.
     BadKind,
 }
 
 impl fmt::Display for Fault {
     fn fmt<W: fmt::Write>(&self, f: &mut fmt::Formatter<W>) -> fmt::Result {
-        f.write_str(match self {
-            Fault::TooLarge => "too large",
-            Fault::CutShort => "cut short",
-            Fault::BadKind => "bad kind",
-        })
-    }
-}
-
-impl From<CutShort> for Fault {
-    fn from(_: CutShort) -> Fault {
-        Fault::CutShort
+        match self {
+            Fault::Input(fault) => write!(f, "{fault}"),
+            Fault::BadKind => f.write_str("bad kind"),
+        }
     }
 }
 
 impl From<lines::Fault> for Fault {
+    ghost use Rattle.bool_script.specs.declared.input.Fault.TheVariants.{Input};
+
+    ghost from_gives = { λ fault result. result ≡ Input fault };
+
     fn from(fault: lines::Fault) -> Fault {
-        match fault {
-            lines::Fault::TooLarge => Fault::TooLarge,
-            lines::Fault::CutShort => Fault::CutShort,
-        }
+        Fault::Input(fault)
+    }
+}
+
+impl From<CutShort> for Fault {
+    ghost use Rattle.lines.specs.declared.Fault.TheVariants.{CutShort as Short};
+    ghost use Rattle.bool_script.specs.declared.input.Fault.TheVariants.{Input};
+
+    ghost from_gives = { λ _ result. result ≡ Input Short };
+
+    fn from(cut: CutShort) -> Fault {
+        Fault::Input(cut.into())
     }
 }
 
@@ -58,7 +61,7 @@ fn take_reads<'a>(input: &mut impl Read, buf: &'a mut [u8]) -> Result<&'a [u8], 
     ensures within { IfOk result (λ reads. length reads.now ≤ length buf.old) }
     ensures kinds { IfOk result (λ reads. known reads.now ≡ true) }
 {
-    let count = lines::take_le2(input)?.ok_or(Fault::CutShort)?;
+    let count = lines::take_le2(input)?.ok_or(CutShort)?;
     let reads = lines::take_sized(input, buf, u32::from(count) * 2, 2048)?;
     if !kinds_known(reads) {
         return Err(Fault::BadKind);

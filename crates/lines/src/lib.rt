@@ -2,6 +2,7 @@
 // No public function has a premise but that a closure may be called.
 #![tactic(auto)]
 
+pub mod list;
 pub mod run;
 
 ghost use Rattle.std.specs.Prelude.{◌≡◌, ◌<◌, ◌≤◌, ◌↔◌, IfOk, IfErr, IsErrOf, length};
