@@ -51,7 +51,7 @@ pub fn records<R: Read, E: From<CutShort>, F: FnMut(&mut R, u8) -> Result<(), E>
     )
 }
 
-// Nothing after the end.
+// After the end, which nothing follows.
 pub fn end(input: &mut impl Read) -> Result<(), Fault> {
     match take_byte(input) {
         Some(_) => Err(Fault::More),
@@ -62,6 +62,7 @@ pub fn end(input: &mut impl Read) -> Result<(), Fault> {
 // How many answers differ from the stored ones.
 #[derive(Clone, Copy, Default)]
 pub struct Apart {
+    // Told or not.
     count: u64,
 }
 

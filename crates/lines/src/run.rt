@@ -27,8 +27,8 @@ pub fn turns<E, F: FnMut() -> Flow<E>>(mut turn: F) -> Result<(), E>
 // Room for the longest line of any program: that of 1,024 reads of a script has under 26,000 bytes.
 pub type Line = Text<[u8; 32768]>;
 
-// What each turn puts into an empty line, printed. A turn that fails ends the run with a line that says what is wrong, and so does a
-// line that cannot be written.
+// What each turn puts into an empty line, printed. A turn that fails ends the run with a line that says what is wrong; a line that cannot
+// be written ends it too.
 pub fn tell_each<E: Display + Drop, F: FnMut(&mut Line) -> Flow<E>>(
     rt: &impl Print,
     mut turn: F,
@@ -37,7 +37,7 @@ pub fn tell_each<E: Display + Drop, F: FnMut(&mut Line) -> Flow<E>>(
 {
     let mut out = Line::new();
     turns(
-        || -> io::Result<ControlFlow<()>>
+        || -> Flow<io::Error>
             requires { (state : F) (line : _) → F.pre state line }
         {
             out.clear();
