@@ -3,17 +3,17 @@
 // wrong.
 #![tactic(auto)]
 
-ghost use Rattle.std.specs.Prelude.{IfOk};
-ghost use Rattle.lines.specs.Read.{IsPrefixLen};
+ghost use Rattle.std.specs.Prelude.{◌≤◌, IfOk, length};
 
-use bool_script::{Engine, Line, input, line};
-use lines::CutShort;
+use bool_script::input::Script;
+use bool_script::{Engine, input, line};
+use lines::list::Apart;
+use lines::run::Line;
+use lines::{CutShort, list};
 use std::fmt;
 use std::io::Read;
 
-// The first bytes of records: the list's end, and a script.
-const END: u8 = 0;
-
+// The first byte of a script's record.
 const SCRIPT: u8 = 2;
 
 // What is wrong with a list.
@@ -23,12 +23,10 @@ enum Fault {
     Head,
     // A script is wrong, or the list ends before its end.
     Script(input::Fault),
-    // A record that is none of the two.
-    Unknown,
+    // It is wrong as any list could be.
+    List(list::Fault),
     // It tells another number of scripts.
     Count,
-    // It goes on after its end.
-    More,
 }
 
 impl fmt::Display for Fault {
@@ -36,9 +34,8 @@ impl fmt::Display for Fault {
         match self {
             Fault::Head => write!(f, "not a list of scripts"),
             Fault::Script(fault) => write!(f, "{fault}"),
-            Fault::Unknown => write!(f, "unknown record"),
+            Fault::List(fault) => write!(f, "{fault}"),
             Fault::Count => write!(f, "the list has another number of scripts"),
-            Fault::More => write!(f, "more after the end"),
         }
     }
 }
@@ -46,6 +43,12 @@ impl fmt::Display for Fault {
 impl From<input::Fault> for Fault {
     fn from(fault: input::Fault) -> Fault {
         Fault::Script(fault)
+    }
+}
+
+impl From<list::Fault> for Fault {
+    fn from(fault: list::Fault) -> Fault {
+        Fault::List(fault)
     }
 }
 
@@ -60,7 +63,7 @@ impl From<CutShort> for Fault {
 struct Tally {
     scripts: u64,
     operations: u64,
-    apart: u64,
+    apart: Apart,
 }
 
 impl fmt::Display for Tally {
@@ -72,61 +75,32 @@ impl fmt::Display for Tally {
         } = *self;
         write!(
             f,
-            "{scripts} scripts, {operations} operations, by both engines, {apart} apart"
+            "{scripts} scripts, {operations} operations, by both engines, {apart}"
         )
     }
 }
 
 impl Tally {
-    // Only the first twenty are told. Scripts are counted from 1.
+    // Scripts are counted from 1.
     fn set_apart(&mut self, rt: &impl Print, engine: &str) {
-        if self.apart < 20 {
-            let script = self.scripts;
+        let script = self.scripts;
+        self.apart.add(|| {
             let _ = println!(rt; "apart: script {script}, {engine}");
-        }
-        self.apart = self.apart.wrapping_add(1);
+        });
     }
 
     // The line of a script on both engines, held against the stored one.
-    fn compare(
-        &mut self,
-        rt: &impl Print,
-        area: &[u8],
-        reads: &[u8],
-        stored: &[u8],
-        out: &mut Line,
-    ) {
+    fn compare(&mut self, rt: &impl Print, script: Script, stored: &[u8], out: &mut Line) {
         self.scripts = self.scripts.wrapping_add(1);
-        self.operations = self.operations.wrapping_add((reads.len() / 2) as u64);
-        if !is_line(area, reads, stored, Engine::Window, out) {
+        self.operations = self
+            .operations
+            .wrapping_add((script.reads.len() / 2) as u64);
+        if !is_line(script, stored, Engine::Window, out) {
             self.set_apart(rt, "the window");
         }
-        if !is_line(area, reads, stored, Engine::Slow, out) {
+        if !is_line(script, stored, Engine::Slow, out) {
             self.set_apart(rt, "the slow engine");
         }
-    }
-
-    // A script and its line. The number of the worked case that it is stands before it, for readers; 0 for none.
-    fn script(
-        &mut self,
-        rt: &impl Print,
-        input: &mut impl Read,
-        out: &mut Line,
-    ) -> Result<(), Fault> {
-        let mut area = [0u8; 4096];
-        let mut reads = [0u8; 2048];
-        let mut stored = [0u8; 32768];
-        lines::take_byte(input).ok_or(CutShort)?;
-        let script = input::take(input, &mut area, &mut reads)?.ok_or(CutShort)?;
-        let n = take_stored(input, &mut stored)?;
-        self.compare(
-            rt,
-            &area[..script.area],
-            &reads[..script.reads],
-            &stored[..n],
-            out,
-        );
-        Ok(())
     }
 
     // The number of scripts, and nothing after it.
@@ -135,53 +109,50 @@ impl Tally {
         if self.scripts != u64::from(count) {
             return Err(Fault::Count);
         }
-        if lines::take_byte(input).is_some() {
-            return Err(Fault::More);
-        }
-        Ok(())
+        Ok(list::end(input)?)
     }
 }
 
-fn is_line(area: &[u8], reads: &[u8], stored: &[u8], engine: Engine, out: &mut Line) -> bool {
+fn is_line(script: Script, stored: &[u8], engine: Engine, out: &mut Line) -> bool {
     out.clear();
-    line(area, reads, engine, out);
+    line(script.area, script.reads, engine, out);
     out.as_bytes() == stored
 }
 
-// A line from the list; its length.
-fn take_stored(input: &mut impl Read, stored: &mut [u8]) -> Result<usize, CutShort>
-    ensures { IfOk result (λ n. IsPrefixLen n stored.new) }
+// A line from the list.
+fn take_stored<'a>(input: &mut impl Read, buf: &'a mut [u8]) -> Result<&'a [u8], CutShort>
+    ensures { IfOk result (λ line. length line.now ≤ length buf.old) }
 {
     let n = usize::from(lines::take_le2(input)?.ok_or(CutShort)?);
-    lines::take_exact(input, stored, n)?;
-    Ok(n)
+    lines::take_exact(input, buf, n)
 }
 
-// The whole list. Nothing says that it ends, so the loop has a number of turns that no run uses up.
-fn run(rt: &impl Print, input: &mut impl Read) -> Result<Tally, Fault> {
-    let mut head = [0u8; 8];
-    if lines::take_exact(input, &mut head, 8).is_err() || head != *b"SBBOOLS1" {
+// The whole list.
+fn run(rt: &(impl Input + Print)) -> Result<Tally, Fault> {
+    let mut input = rt.reader();
+    if lines::take_array(&mut input) != Ok(Some(*b"SBBOOLS1")) {
         return Err(Fault::Head);
     }
-    let mut tally = Tally::default();
+    let mut area = [0u8; 4096];
+    let mut reads = [0u8; 2048];
+    let mut stored = [0u8; 32768];
     let mut out = Line::new();
-    for _ in 0..u64::MAX {
-        match lines::take_byte(input).ok_or(CutShort)? {
-            SCRIPT => tally.script(rt, input, &mut out)?,
-            END => {
-                tally.end(input)?;
-                break;
-            }
-            _ => return Err(Fault::Unknown),
+    let mut tally = Tally::default();
+    list::records(&mut input, |input, first| -> Result<(), Fault> {
+        if first != SCRIPT {
+            return Err(list::Fault::Unknown.into());
         }
-    }
+        // The number of the worked case that it is, for readers; 0 for none.
+        lines::take_byte(input).ok_or(CutShort)?;
+        let script = input::take(input, &mut area, &mut reads)?.ok_or(CutShort)?;
+        let stored = take_stored(input, &mut stored)?;
+        tally.compare(rt, script, stored, &mut out);
+        Ok(())
+    })?;
+    tally.end(&mut input)?;
     Ok(tally)
 }
 
-// What cannot be written is left out.
 fn main(rt: HostRuntime) {
-    let _ = match run(&rt, &mut rt.reader()) {
-        Ok(tally) => rt.println(tally),
-        Err(fault) => rt.println(fault),
-    };
+    list::tell(&rt, run(&rt));
 }

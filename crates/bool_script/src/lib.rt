@@ -111,9 +111,6 @@ fn tell_reads<D: BareDecoder + Drop, B: Buffer>(mut dec: D, reads: &[u8], out: &
     finish(&dec, out);
 }
 
-// The longest line, of 1,024 reads, has under 26,000 bytes.
-pub type Line = Text<[u8; 32768]>;
-
 // The script's line, by either engine.
 pub fn line<B: Buffer>(area: &[u8], reads: &[u8], engine: Engine, out: &mut Text<B>)
     ensures { out.new ≡ puts out.old (line_of area.now reads.now) }

@@ -6,14 +6,7 @@ use vp8_records::{Mode, Parser};
 
 // The whole program, in a mode.
 pub fn run(rt: &(impl Input + Print), mode: Mode) {
-    let mut frame = [0u8; 65537];
-    match lines::take_all(&mut rt.reader(), &mut frame) {
-        Ok(n) => {
-            let parsed = vp8_parser::parse_in(Parser::new(), &frame[..n], mode);
-            vp8_show::print::tell(rt, parsed);
-        }
-        Err(fault) => {
-            let _ = rt.println(fault);
-        }
-    }
+    lines::run::with_input(rt, |frame| {
+        vp8_show::print::tell(rt, vp8_parser::parse_in(Parser::new(), frame, mode));
+    });
 }

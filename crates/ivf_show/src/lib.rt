@@ -59,11 +59,5 @@ fn tell_file(rt: &impl Print, file: &[u8], mode: Mode) {
 
 // The whole program, in a mode.
 pub fn run(rt: &(impl Input + Print), mode: Mode) {
-    let mut file = [0u8; 65537];
-    match lines::take_all(&mut rt.reader(), &mut file) {
-        Ok(n) => tell_file(rt, &file[..n], mode),
-        Err(fault) => {
-            let _ = rt.println(fault);
-        }
-    }
+    lines::run::with_input(rt, |file| tell_file(rt, file, mode));
 }

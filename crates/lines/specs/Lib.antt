@@ -1,2 +1,2 @@
--- What the contracts cite: counts of bytes that were read.
-pub mod Read
+-- What the contracts cite: turns one after another.
+pub mod Turns

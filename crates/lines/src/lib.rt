@@ -1,9 +1,11 @@
 // Input and output of the programs: a text to standard output, and numbers and runs of bytes from a reader.
-// No public function has a premise.
+// No public function has a premise but that a closure may be called.
 #![tactic(auto)]
 
-ghost use Rattle.std.specs.Prelude.{◌≡◌, ◌<◌, ◌≤◌, ◌↔◌, OnOk, IfOk, IfErr, IsErrOf, length};
-ghost use Rattle.lines.specs.Read.{IsPrefixLen};
+pub mod list;
+pub mod run;
+
+ghost use Rattle.std.specs.Prelude.{◌≡◌, ◌<◌, ◌≤◌, ◌↔◌, IfOk, IfErr, IsErrOf, length};
 
 use std::io::Read;
 use std::{fmt, io};
@@ -13,27 +15,28 @@ pub fn show(rt: &impl Print, text: &[u8]) -> io::Result<()> {
     rt.write_all(text)
 }
 
-// Reads until buf is full, the input ends or a read fails; how many bytes came, to the start of buf. By hand: `read_exact` says little of
-// what came before a read that fails.
-fn read_full(input: &mut impl Read, buf: &mut [u8]) -> usize
-    ensures { IsPrefixLen result buf.new }
+// Reads until buf is full, the input ends or a read fails; what came, at the start of buf. By hand: `read_exact` says little of what came
+// before a read that fails.
+fn read_full<'a>(input: &mut impl Read, buf: &'a mut [u8]) -> &'a [u8]
+    ensures { length result.now ≤ length buf.old }
 {
     let mut done = 0;
     while done < buf.len() {
         let Ok(n) = input.read(&mut buf[done..]) else {
-            return done;
+            break;
         };
         if n == 0 {
-            return done;
+            break;
         }
         done += n;
     }
-    done
+    &buf[..done]
 }
 
-// Reads n bytes to the start of buf; fewer where buf is shorter or the input ends.
-pub fn take(input: &mut impl Read, buf: &mut [u8], n: usize) -> usize
-    ensures { (result ≤ n) × IsPrefixLen result buf.new }
+// The next n bytes, at the start of buf; fewer where buf is shorter or the input ends.
+pub fn take<'a>(input: &mut impl Read, buf: &'a mut [u8], n: usize) -> &'a [u8]
+    ensures most { length result.now ≤ n }
+    ensures within { length result.now ≤ length buf.old }
 {
     let wanted = n.min(buf.len());
     read_full(input, &mut buf[..wanted])
@@ -43,14 +46,20 @@ pub fn take(input: &mut impl Read, buf: &mut [u8], n: usize) -> usize
 #[derive(Clone, Copy, PartialEq, Eq, Debug)]
 pub struct CutShort;
 
-// The next n bytes, to the start of buf; also cut short where buf is.
-pub fn take_exact(input: &mut impl Read, buf: &mut [u8], n: usize) -> Result<(), CutShort>
-    ensures { OnOk result (IsPrefixLen n buf.new) }
+// The next n bytes, at the start of buf; also cut short where buf is.
+pub fn take_exact<'a>(
+    input: &mut impl Read,
+    buf: &'a mut [u8],
+    n: usize,
+) -> Result<&'a [u8], CutShort>
+    ensures whole { IfOk result (λ bytes. length bytes.now ≡ n) }
+    ensures within { IfOk result (λ bytes. length bytes.now ≤ length buf.old) }
 {
-    if take(input, buf, n) < n {
+    let bytes = take(input, buf, n);
+    if bytes.len() < n {
         return Err(CutShort);
     }
-    Ok(())
+    Ok(bytes)
 }
 
 // What is wrong with a piece of the input.
@@ -81,51 +90,46 @@ impl From<CutShort> for Fault {
     }
 }
 
-// The next bytes, of a number that was read and at most the limit, to the start of buf; how many they are.
-pub fn take_sized(
+// The next bytes, of a number that was read and at most the limit, at the start of buf.
+pub fn take_sized<'a>(
     input: &mut impl Read,
-    buf: &mut [u8],
+    buf: &'a mut [u8],
     size: u32,
     limit: u32,
-) -> Result<usize, Fault>
+) -> Result<&'a [u8], Fault>
     ensures too_large { IsErrOf result Fault.TooLarge ↔ (limit < size) }
-    ensures whole { IfOk result (λ count. count ≡ size) }
-    ensures counts { IfOk result (λ count. IsPrefixLen count buf.new) }
+    ensures whole { IfOk result (λ bytes. length bytes.now ≡ size) }
+    ensures within { IfOk result (λ bytes. length bytes.now ≤ length buf.old) }
 {
     if limit < size {
         return Err(Fault::TooLarge);
     }
-    let wanted = size as usize;
-    take_exact(input, buf, wanted)?;
-    Ok(wanted)
+    Ok(take_exact(input, buf, size as usize)?)
 }
 
-// The whole input, to the start of buf, which it may not fill; how many bytes it has.
-pub fn take_all(input: &mut impl Read, buf: &mut [u8]) -> Result<usize, Fault>
-    ensures within { IfOk result (λ count. count < length buf.new) }
-    ensures counts { IfOk result (λ count. IsPrefixLen count buf.new) }
+// The whole input, at the start of buf, which it may not fill.
+pub fn take_all<'a>(input: &mut impl Read, buf: &'a mut [u8]) -> Result<&'a [u8], Fault>
+    ensures within { IfOk result (λ bytes. length bytes.now < length buf.old) }
     ensures err { IfErr result (λ fault. fault ≡ Fault.TooLarge) }
 {
-    let count = read_full(input, buf);
-    if count == buf.len() {
+    let room = buf.len();
+    let bytes = read_full(input, buf);
+    if bytes.len() == room {
         return Err(Fault::TooLarge);
     }
-    Ok(count)
+    Ok(bytes)
 }
 
 // The next byte; none where the input ends.
 pub fn take_byte(input: &mut impl Read) -> Option<u8> {
     let mut byte = [0u8; 1];
-    if read_full(input, &mut byte) == 0 {
-        return None;
-    }
-    Some(byte[0])
+    read_full(input, &mut byte).first().copied()
 }
 
 // The next N bytes, or none where the input ends at once.
-fn take_array<const N: usize>(input: &mut impl Read) -> Result<Option<[u8; N]>, CutShort> {
+pub fn take_array<const N: usize>(input: &mut impl Read) -> Result<Option<[u8; N]>, CutShort> {
     let mut bytes = [0u8; N];
-    match read_full(input, &mut bytes) {
+    match read_full(input, &mut bytes).len() {
         0 => Ok(None),
         n if n < N => Err(CutShort),
         _ => Ok(Some(bytes)),

@@ -7,9 +7,9 @@ ghost use Rattle.std.specs.Prelude.{IfOk, IfSome};
 ghost use Rattle.vp8_show.specs.Input.{IsFrameIn};
 
 use lines::Fault;
-use std::io;
+use lines::run::{Flow, Line, tell_each};
 use std::io::Read;
-use text::Text;
+use std::ops::ControlFlow;
 use vp8_records::{Mode, Parser};
 use vp8_show::input;
 use vp8_show::input::Record;
@@ -32,10 +32,14 @@ impl Run {
     }
 
     // The next record; none where the input ends, which it may not before a frame that is to be looked at.
-    fn next(&self, input: &mut impl Read, buffer: &mut [u8]) -> Result<Option<Record>, Fault>
-        ensures { IfOk result (λ next. IfSome next (IsFrameIn buffer.new)) }
+    fn next<'a>(
+        &self,
+        input: &mut impl Read,
+        buf: &'a mut [u8],
+    ) -> Result<Option<Record<'a>>, Fault>
+        ensures { IfOk result (λ next. IfSome next (IsFrameIn buf.old)) }
     {
-        let record = input::take(input, buffer)?;
+        let record = input::take(input, buf)?;
         if self.looks && record.is_none() {
             return Err(Fault::CutShort);
         }
@@ -43,7 +47,7 @@ impl Run {
     }
 
     // A frame and its line.
-    fn frame(&mut self, bytes: &[u8], out: &mut Text<[u8; 8192]>) {
+    fn frame(&mut self, bytes: &[u8], out: &mut Line) {
         if self.looks {
             self.looks = false;
             vp8_show::dump::look(out, vp8_parser::peek(bytes));
@@ -56,29 +60,19 @@ impl Run {
     }
 }
 
-// Nothing says that the input ends, so the loop has a number of turns that no run uses up.
-fn records(rt: &impl Print, input: &mut impl Read) -> io::Result<()> {
-    let mut run = Run::new();
-    let mut buffer = [0u8; 65536];
-    let mut out = Text::<[u8; 8192]>::new();
-    for _ in 0..u64::MAX {
-        match run.next(input, &mut buffer) {
-            Ok(Some(Record::Frame(count))) => {
-                out.clear();
-                run.frame(&buffer[..count], &mut out);
-                lines::show(rt, out.as_bytes())?;
-            }
-            Ok(Some(Record::Fresh)) => run.parser = Parser::new(),
-            Ok(Some(Record::In(mode))) => run.mode = mode,
-            Ok(Some(Record::Look)) => run.looks = true,
-            Ok(None) => return Ok(()),
-            Err(fault) => return rt.println(fault),
-        }
-    }
-    Ok(())
-}
-
 // A line that cannot be written ends the run, and the status stays 0.
 fn main(rt: HostRuntime) {
-    let _ = records(&rt, &mut rt.reader());
+    let mut input = rt.reader();
+    let mut run = Run::new();
+    let mut buffer = [0u8; 65536];
+    let _ = tell_each(&rt, |out: &mut Line| -> Flow<Fault> {
+        match run.next(&mut input, &mut buffer)? {
+            Some(Record::Frame(bytes)) => run.frame(bytes, out),
+            Some(Record::Fresh) => run.parser = Parser::new(),
+            Some(Record::In(mode)) => run.mode = mode,
+            Some(Record::Look) => run.looks = true,
+            None => return Ok(ControlFlow::Break(())),
+        }
+        Ok(ControlFlow::Continue(()))
+    });
 }

@@ -5,8 +5,8 @@ use text::Text;
 
 fn main(rt: HostRuntime) {
     let mut first = [0u8; 10];
-    let n = lines::take(&mut rt.reader(), &mut first, 10);
+    let bytes = lines::take(&mut rt.reader(), &mut first, 10);
     let mut out = Text::<[u8; 256]>::new();
-    vp8_show::print::look(&mut out, vp8_parser::peek(&first[..n]));
+    vp8_show::print::look(&mut out, vp8_parser::peek(bytes));
     let _ = lines::show(&rt, out.as_bytes());
 }

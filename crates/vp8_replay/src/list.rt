@@ -2,18 +2,13 @@
 use lines::CutShort;
 use std::io::Read;
 
-// What is wrong with a piece.
+// A stored answer that is cut short or has a wrong index.
 #[derive(Clone, Copy, PartialEq, Eq, Debug)]
-pub enum Fault {
-    // The list ends within it, or before it.
-    CutShort,
-    // It changes a number past the last.
-    Index,
-}
+pub struct BadAnswer;
 
-impl From<CutShort> for Fault {
-    fn from(_: CutShort) -> Fault {
-        Fault::CutShort
+impl From<CutShort> for BadAnswer {
+    fn from(_: CutShort) -> BadAnswer {
+        BadAnswer
     }
 }
 
@@ -40,15 +35,15 @@ pub fn numbers<const N: usize>(
 }
 
 // An index and the new number there.
-fn change(input: &mut impl Read, on: &mut [u8]) -> Result<(), Fault> {
+fn change(input: &mut impl Read, on: &mut [u8]) -> Result<(), BadAnswer> {
     let at = lines::take_le2(input)?.ok_or(CutShort)?;
-    let place = on.get_mut(usize::from(at)).ok_or(Fault::Index)?;
+    let place = on.get_mut(usize::from(at)).ok_or(BadAnswer)?;
     *place = lines::take_byte(input).ok_or(CutShort)?;
     Ok(())
 }
 
 // A count, and that many changes.
-pub fn patch(input: &mut impl Read, on: &mut [u8]) -> Result<(), Fault> {
+pub fn patch(input: &mut impl Read, on: &mut [u8]) -> Result<(), BadAnswer> {
     let count = lines::take_le2(input)?.ok_or(CutShort)?;
     for _ in 0..count {
         change(input, on)?;

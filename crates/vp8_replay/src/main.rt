@@ -6,15 +6,14 @@
 mod list;
 
 use lines::CutShort;
+use lines::list::Apart;
 use std::fmt;
 use std::io::Read;
 use vp8_compare::{Difference, Stored};
 use vp8_records::{Mode, Parser};
 use vp8_show::input;
 
-// The first bytes of records: the list's end, a new sequence, and a frame in either mode.
-const END: u8 = 0;
-
+// The first bytes of records: a new sequence, and a frame in either mode.
 const SEQUENCE: u8 = 1;
 
 const RUST: u8 = 2;
@@ -38,14 +37,12 @@ enum Fault {
     Frame(lines::Fault),
     // A stored answer is wrong.
     Answer,
-    // A record that is none of the four.
-    Unknown,
+    // It is wrong as any list could be.
+    List(lines::list::Fault),
     // It tells another number of sequences.
     Sequences,
     // It tells another number of frames.
     Frames,
-    // It goes on after its end.
-    More,
 }
 
 impl fmt::Display for Fault {
@@ -55,10 +52,9 @@ impl fmt::Display for Fault {
             Fault::Fresh(n) => write!(f, "a fresh parser keeps another number {n}"),
             Fault::Frame(fault) => write!(f, "{fault}"),
             Fault::Answer => write!(f, "an answer that is cut short or has a wrong index"),
-            Fault::Unknown => write!(f, "unknown record"),
+            Fault::List(fault) => write!(f, "{fault}"),
             Fault::Sequences => write!(f, "the list has another number of sequences"),
             Fault::Frames => write!(f, "the list has another number of frames"),
-            Fault::More => write!(f, "more after the end"),
         }
     }
 }
@@ -66,6 +62,18 @@ impl fmt::Display for Fault {
 impl From<lines::Fault> for Fault {
     fn from(fault: lines::Fault) -> Fault {
         Fault::Frame(fault)
+    }
+}
+
+impl From<list::BadAnswer> for Fault {
+    fn from(_: list::BadAnswer) -> Fault {
+        Fault::Answer
+    }
+}
+
+impl From<lines::list::Fault> for Fault {
+    fn from(fault: lines::list::Fault) -> Fault {
+        Fault::List(fault)
     }
 }
 
@@ -81,7 +89,7 @@ struct Tally {
     sequences: u64,
     frames: u64,
     within: u64,
-    apart: u64,
+    apart: Apart,
 }
 
 impl fmt::Display for Tally {
@@ -92,26 +100,25 @@ impl fmt::Display for Tally {
             apart,
             ..
         } = *self;
-        write!(f, "{sequences} sequences, {frames} frames, {apart} apart")
+        write!(f, "{sequences} sequences, {frames} frames, {apart}")
     }
 }
 
 impl Tally {
-    // A frame, and what differs. Only the first twenty are told; sequences and frames are counted from 1.
+    // A frame, and what differs. Sequences and frames are counted from 1.
     fn judge(&mut self, rt: &impl Print, case: u32, found: Option<Difference>) {
         self.frames = self.frames.wrapping_add(1);
         self.within = self.within.wrapping_add(1);
         let Some(difference) = found else {
             return;
         };
-        if self.apart < 20 {
-            let sequence = self.sequences;
-            let frame = self.within;
+        let sequence = self.sequences;
+        let frame = self.within;
+        self.apart.add(|| {
             let _ = println!(rt;
                 "apart: sequence {sequence} frame {frame} case {case}: {difference}"
             );
-        }
-        self.apart = self.apart.wrapping_add(1);
+        });
     }
 
     // The numbers of sequences and of frames, and nothing after them.
@@ -123,10 +130,7 @@ impl Tally {
         if self.frames != u64::from(frames) {
             return Err(Fault::Frames);
         }
-        if lines::take_byte(input).is_some() {
-            return Err(Fault::More);
-        }
-        Ok(())
+        Ok(lines::list::end(input)?)
     }
 }
 
@@ -169,7 +173,7 @@ impl Replay {
         self.tally.within = 0;
     }
 
-    fn take_stored(&mut self, input: &mut impl Read) -> Result<Answer, list::Fault> {
+    fn take_stored(&mut self, input: &mut impl Read) -> Result<Answer, list::BadAnswer> {
         let given = list::numbers(input, &[1, 4, 4])?;
         let mut numbers = None;
         if given[0] == 0 {
@@ -180,13 +184,15 @@ impl Replay {
         Ok(Answer { given, numbers })
     }
 
-    // A frame, and its answer held against the stored one. The number of the worked case that it is stands first, 0 for none.
-    fn frame(&mut self, rt: &impl Print, input: &mut impl Read, mode: Mode) -> Result<(), Fault> {
-        let mut buffer = [0u8; 65536];
-        let [case, size] = list::numbers(input, &[1, 4])?;
-        let count = input::take_frame(input, &mut buffer, size)?;
-        let answer = self.take_stored(input).map_err(|_| Fault::Answer)?;
-        let parsed = vp8_parser::parse_in(self.parser, &buffer[..count], mode);
+    // A frame's answer, held against the stored one that comes next.
+    fn frame(
+        &mut self,
+        input: &mut impl Read,
+        frame: &[u8],
+        mode: Mode,
+    ) -> Result<Option<Difference>, Fault> {
+        let answer = self.take_stored(input)?;
+        let parsed = vp8_parser::parse_in(self.parser, frame, mode);
         self.parser = parsed.parser;
         // Of a stored refusal there are no numbers, and none are looked at.
         let stored = Stored {
@@ -195,44 +201,43 @@ impl Replay {
             probs: &self.probs,
             kept: &self.kept,
         };
-        let found = vp8_compare::first(parsed, stored);
-        self.tally.judge(rt, case, found);
-        Ok(())
+        Ok(vp8_compare::first(parsed, stored))
     }
 }
 
-// The whole list: eight letters, the kept numbers of a fresh parser, and records. Nothing says that it ends, so the loop has a number of
-// turns that no run uses up.
-fn run(rt: &impl Print, input: &mut impl Read) -> Result<Tally, Fault> {
-    let mut head = [0u8; 8];
-    if lines::take_exact(input, &mut head, 8).is_err() || head != *b"SBFRAME2" {
+// The whole list: eight letters, the kept numbers of a fresh parser, and records.
+fn run(rt: &(impl Input + Print)) -> Result<Tally, Fault> {
+    let mut input = rt.reader();
+    if lines::take_array(&mut input) != Ok(Some(*b"SBFRAME2")) {
         return Err(Fault::Head);
     }
-    let mut fresh = [0u8; 1126];
-    lines::take_exact(input, &mut fresh, 1126)?;
+    let fresh = lines::take_array(&mut input)?.ok_or(CutShort)?;
     if let Some(i) = vp8_compare::fresh_apart(&fresh) {
         return Err(Fault::Fresh(i));
     }
     let mut replay = Replay::new(fresh);
-    for _ in 0..u64::MAX {
-        match lines::take_byte(input).ok_or(CutShort)? {
-            SEQUENCE => replay.sequence(),
-            RUST => replay.frame(rt, input, Mode::Rust)?,
-            STANDARD => replay.frame(rt, input, Mode::Standard)?,
-            END => {
-                replay.tally.end(input)?;
-                break;
+    let mut buffer = [0u8; 65536];
+    lines::list::records(&mut input, |input, first| -> Result<(), Fault> {
+        let mode = match first {
+            RUST => Mode::Rust,
+            STANDARD => Mode::Standard,
+            SEQUENCE => {
+                replay.sequence();
+                return Ok(());
             }
-            _ => return Err(Fault::Unknown),
-        }
-    }
+            _ => return Err(lines::list::Fault::Unknown.into()),
+        };
+        // The number of the worked case that the frame is stands first, 0 for none.
+        let [case, size] = list::numbers(input, &[1, 4])?;
+        let frame = input::take_frame(input, &mut buffer, size)?;
+        let found = replay.frame(input, frame, mode)?;
+        replay.tally.judge(rt, case, found);
+        Ok(())
+    })?;
+    replay.tally.end(&mut input)?;
     Ok(replay.tally)
 }
 
-// What cannot be written is left out.
 fn main(rt: HostRuntime) {
-    let _ = match run(&rt, &mut rt.reader()) {
-        Ok(tally) => rt.println(tally),
-        Err(fault) => rt.println(fault),
-    };
+    lines::list::tell(&rt, run(&rt));
 }

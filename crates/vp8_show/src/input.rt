@@ -1,8 +1,7 @@
 // A record from standard input: a 4-byte little-endian length (at most 65,536) and that many bytes of a frame. With nothing after it, the
 // length FFFFFFFF asks for a fresh parser, FFFFFFFE and FFFFFFFD that frames be read in the standard's mode and in the Rust's from here
 // on, and FFFFFFFC that the next frame be only looked at.
-ghost use Rattle.std.specs.Prelude.{◌≡◌, ◌<◌, ◌↔◌, IfOk, IfSome, IsErrOf};
-ghost use Rattle.lines.specs.Read.{IsPrefixLen};
+ghost use Rattle.std.specs.Prelude.{◌≡◌, ◌<◌, ◌≤◌, ◌↔◌, IfOk, IfSome, IsErrOf, length};
 ghost use Rattle.vp8_show.specs.Input.{IsFrameIn};
 
 use lines::Fault;
@@ -20,9 +19,9 @@ const LOOK: u32 = 0xfffffffc;
 
 // What a record asks for.
 #[derive(Clone, Copy)]
-pub enum Record {
-    // To parse a frame of so many bytes, or to look at it.
-    Frame(usize),
+pub enum Record<'a> {
+    // To parse a frame, or to look at it.
+    Frame(&'a [u8]),
     // A fresh parser.
     Fresh,
     // Frames read in this mode from here on.
@@ -31,18 +30,22 @@ pub enum Record {
     Look,
 }
 
-// The frame of a given size, to the start of the buffer; how many bytes it has.
-pub fn take_frame(input: &mut impl Read, frame: &mut [u8], size: u32) -> Result<usize, Fault>
+// The frame of a given size, at the start of the buffer.
+pub fn take_frame<'a>(
+    input: &mut impl Read,
+    buf: &'a mut [u8],
+    size: u32,
+) -> Result<&'a [u8], Fault>
     ensures too_large { IsErrOf result Fault.TooLarge ↔ (65536 < size) }
-    ensures whole { IfOk result (λ count. count ≡ size) }
-    ensures counts { IfOk result (λ count. IsPrefixLen count frame.new) }
+    ensures whole { IfOk result (λ frame. length frame.now ≡ size) }
+    ensures within { IfOk result (λ frame. length frame.now ≤ length buf.old) }
 {
-    lines::take_sized(input, frame, size, 65536)
+    lines::take_sized(input, buf, size, 65536)
 }
 
-// The next record, its frame to the start of the buffer; none where the input ends.
-pub fn take(input: &mut impl Read, frame: &mut [u8]) -> Result<Option<Record>, Fault>
-    ensures { IfOk result (λ next. IfSome next (IsFrameIn frame.new)) }
+// The next record, its frame at the start of the buffer; none where the input ends.
+pub fn take<'a>(input: &mut impl Read, buf: &'a mut [u8]) -> Result<Option<Record<'a>>, Fault>
+    ensures { IfOk result (λ next. IfSome next (IsFrameIn buf.old)) }
 {
     let Some(size) = lines::take_le4(input)? else {
         return Ok(None);
@@ -52,6 +55,6 @@ pub fn take(input: &mut impl Read, frame: &mut [u8]) -> Result<Option<Record>, F
         STANDARD => Record::In(Mode::Standard),
         RUST => Record::In(Mode::Rust),
         LOOK => Record::Look,
-        _ => Record::Frame(take_frame(input, frame, size)?),
+        _ => Record::Frame(take_frame(input, buf, size)?),
     }))
 }
