@@ -22,12 +22,11 @@ impl BoolDecoder<'_> {
         requires { ReadsAhead table.now from self.old }
         ensures { Skips table.now from self.old result self.new }
     {
-        let stop = table.len().saturating_sub(3);
         let bound = self.window.limit - 1;
         let mut low = self.window.range - 1;
         let mut i = from;
         // By index, four at a step: the place where it stops is the answer.
-        while i < stop {
+        while i + 3 < table.len() {
             let a = step(low, table[i]);
             let b = step(a, table[i + 1]);
             let c = step(b, table[i + 2]);

@@ -19,7 +19,7 @@ pub loop-i-preserved : goal.loop-i-preserved
 loop-i-preserved c = let d = c.args.self.now.window in
     let may = ahead c.args.self.now c.requires in
     let inv = c.loop-i.invariant in
-    let left : c.loop-i.i + 4 ≤ length c.args.table.now = omega (arith, c.loop-i-test.true, c.saturating_sub-stop.ensures) in
+    let left : c.loop-i.i + 4 ≤ length c.args.table.now = omega (arith, c.loop-i-test.true) in
     let r1 = c.step-a.ensures in
     let r2 = c.step-b.ensures in
     let r3 = c.step-c.ensures in
