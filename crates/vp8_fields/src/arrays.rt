@@ -1,5 +1,5 @@
-// Several numbers in a row, read over an array of old ones. The three loops differ in the read, and are not one loop that takes a closure:
-// the checker makes no proof of a function of any N that passes one.
+// Several numbers in a row, read over an array of old ones. The three loops differ in the read: as a closure it would want a clause of its
+// own in each.
 ghost use Rattle.std.proofs.Math.Option.{some};
 ghost use Rattle.std.specs.Prelude.{[], ◌+◌, ◌*◌, ◌≤◌};
 ghost use Rattle.rfc6386.specs.Reads.{when, lit, sint, make, times, maybe};
@@ -53,6 +53,6 @@ pub fn bytes_if<const N: usize>(dec: &mut BoolDecoder, on: bool, old: [u8; N]) -
     requires { Room dec.old (8 * N) }
     ensures { Ran (onto old.entry (when on (times N (make some (lit 8))) [])) dec.old result dec.new (8 * N) }
 {
-    // By an `if`: a function of any N passes no closure.
+    // By an `if`, as in `deltas_if` and `segment_probs_if`: for `read_if` a closure that calls a reader of any N wants both clauses written.
     if on { bytes(dec, old) } else { old }
 }

@@ -16,7 +16,6 @@ fn deltas_if(dec: &mut BoolDecoder, on: bool, old: [i8; 4]) -> [i8; 4]
     requires { Room dec.old 32 }
     ensures { Ran (onto old (when on (times 4 (maybe 128 (sint 6))) [])) dec.old result dec.new 32 }
 {
-    // By an `if`: a closure that calls a reader of any N wants both its clauses written.
     if on { sints_or(dec, 6, old) } else { old }
 }
 

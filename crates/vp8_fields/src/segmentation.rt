@@ -16,7 +16,6 @@ fn segment_probs_if(dec: &mut BoolDecoder, on: bool, old: [u8; 3]) -> [u8; 3]
     requires { Room dec.old 27 }
     ensures { Ran (onto old (when on (anew 3 (lit 8) 255) [])) dec.old result dec.new 27 }
 {
-    // By an `if`, as `deltas_if`; and a closure that reads anew cannot name the old ones in its clause.
     if on { bytes_or(dec, [255; 3]) } else { old }
 }
 
