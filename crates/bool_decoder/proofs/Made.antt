@@ -25,10 +25,13 @@ pub make_bind : {A B C : Type 0} (m : Rd A) (f : A → Rd B) (h : B → C) → m
 unfolding make ◌>>=◌
 make_bind m f h = sym (assoc m f (λ b. ret (h b)))
 
-pub make_if : {A B : Type 0} (m : Rd A) (x : A) (h : A → B) (b : Bool) → when b (make h m) (h x) ≡ make h (when b m x)
+pub make_on : {A B : Type 0} (m : Rd A) (x : A) (h : A → B) {b : Bool} → b ≡ true → make h m ≡ make h (when b m x)
+unfolding when
+make_on m x h e = rw e
+
+pub make_off : {A B : Type 0} (m : Rd A) (x : A) (h : A → B) {b : Bool} → b ≡ false → ret (h x) ≡ make h (when b m x)
 unfolding when make ◌>>=◌
-make_if m x h true = refl
-make_if m x h false = refl
+make_off m x h e = rw e
 
 -- a read that keeps the old value where none is coded
 pub kept_or : {A : Type 0} (p : ℕ) (m : Rd A) (x : A) → bool p >>= (λ b. when b m x) ≡ make (λ u. or u x) (maybe p m)

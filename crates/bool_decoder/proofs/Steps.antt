@@ -2,11 +2,9 @@
 -- decoder's reads are its window's, one way and the other.
 use Prim.Native.Nat.{ℕ, ◌+◌}
 use mathlib.Core.Path.{◌≡◌, refl, sym, ap, ◌∙◌, subst}
-use mathlib.Core.Bool.{Bool, true, false}
+use mathlib.Core.Bool.{Bool, false}
 use mathlib.Core.List.{List}
-use denote.Ref.{Bor, MutBor}
-use native.Mathlib.Omega.{arith}
-use Rattle.std.specs.Fn.{Once, FnOnceReturnsAtMut}
+use denote.Ref.{Bor}
 use Rattle.rfc6386.specs.Decoder.{bits, past}
 use Rattle.rfc6386.specs.Reads.{Rd, ret, ◌>>=◌, when}
 use Rattle.bool_decoder.specs.Engine as By
@@ -32,16 +30,6 @@ module _ {A : Type 0} {d : BoolDecoder} where
 
   pub off : (m : Rd A) {b : Bool} {x : A} → b ≡ false → Ran (when b m x) d x d 0
   off m e = C.off m e refl
-
-module _ {F A : Type 0} {g : Once F (MutBor BoolDecoder × Unit {0}) (A × (MutBor BoolDecoder × Unit {0}))} {f : F} where
-  -- what `read_if` leaves, where each call of f reads m
-  pub read_if : {m : Rd A} {on : Bool} {other a : A} {d e : BoolDecoder} {k : ℕ}
-      → (on ≡ true → FnOnceReturnsAtMut g f d a e) → (on ≡ false → (a ≡ other) × (e ≡ d))
-      → ((p q : MutBor BoolDecoder) (x : A) → g.post f (p, tt) (x, (q, tt)) → Ran m p.now x q.now k) → Ran (when on m other) d a e k
-  read_if {m} {on = true} set clear reads = let r = set refl in
-      C.on _ refl (rw (r.shows, r.leaves) at (reads r.shown r.left _ r.met))
-  read_if {m} {on = false} set clear reads = let r = clear refl in
-      rw (r.0, r.1) (C.upto (omega arith) (off m refl))
 
 -- what was read, and the bits past the end beside it
 pub passed : {A : Type 0} {m : Rd A} {d e : BoolDecoder} {a b : A} {q k : ℕ} → b ≡ a → q ≡ past_of e → Ran m d a e k → Passed m d b q e k

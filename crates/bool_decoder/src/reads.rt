@@ -1,31 +1,20 @@
 // The reads that sub-headers are made of: under a flag that was read before, or under one of their own with another value where it is
 // clear.
-ghost use Rattle.std.specs.Fn.{FnOnceReturnsAtMut, FnOnceTakesAtMut};
-ghost use Rattle.std.specs.Prelude.{◌≡◌, true, false, ◌+◌, ◌≤◌};
+ghost use Rattle.std.specs.Prelude.{false, ◌+◌, ◌≤◌};
 ghost use Rattle.rfc6386.specs.Reads.{flag, when, lit, sint, make, maybe, or_else};
 ghost use Rattle.rfc6386.specs.Runs.{or};
 ghost use Rattle.bool_decoder.specs.Model.{Room, Ran, Lit};
 
 use crate::BoolDecoder;
 
-impl<'a> BoolDecoder<'a> {
-    // What `read` leaves where `on` is set; where it isn't, `other`, and the decoder as it was.
-    #[inline(always)]
-    pub fn read_if<T: Drop, F: FnOnce(&mut Self) -> T>(&mut self, on: bool, other: T, read: F) -> T
-        requires { (on ≡ true) → FnOnceTakesAtMut F.FnOnce read self.old }
-        ensures set { (on ≡ true) → FnOnceReturnsAtMut F.FnOnce read self.old result self.new }
-        ensures clear { (on ≡ false) → (result ≡ other) × (self.new ≡ self.old) }
-    {
-        if on { read(self) } else { other }
-    }
-
+impl BoolDecoder<'_> {
     // A flag where `on` is set, false where it isn't.
     #[inline(always)]
     pub fn flag_if(&mut self, on: bool) -> bool
         requires { Room self.old 1 }
         ensures { Ran (when on flag false) self.old result self.new 1 }
     {
-        self.read_if(on, false, |d| d.read_flag())
+        if on { self.read_flag() } else { false }
     }
 
     // A literal that fits a byte: RFC 6386 section 8, L(n).
@@ -43,7 +32,7 @@ impl<'a> BoolDecoder<'a> {
         requires { (nbits ≤ 8) × Room self.old nbits }
         ensures { Ran (when on (lit nbits) 0) self.old result self.new nbits }
     {
-        self.read_if(on, 0, |d| d.read_byte(nbits))
+        if on { self.read_byte(nbits) } else { 0 }
     }
 
     // A magnitude and a sign where their flag is set, `other` where it isn't.
@@ -52,7 +41,6 @@ impl<'a> BoolDecoder<'a> {
         requires { (nbits ≤ 7) × Room self.old (nbits + 2) }
         ensures { Ran (or_else (sint nbits) other) self.old result self.new (nbits + 2) }
     {
-        // By an `if`: a closure with these two reads is no longer inlined.
         if self.read_flag() {
             self.read_signed(nbits) as i8
         } else {
@@ -66,7 +54,10 @@ impl<'a> BoolDecoder<'a> {
         requires { Room self.old 9 }
         ensures { Ran (make (λ u. or u other) (maybe p (lit 8))) self.old result self.new 9 }
     {
-        let on = self.read_bit(p);
-        self.read_if(on, other, |d| d.read_byte(8))
+        if self.read_bit(p) {
+            self.read_byte(8)
+        } else {
+            other
+        }
     }
 }

@@ -1,11 +1,15 @@
 -- What a function reads of a sub-header: the definition's reads, over values or over a record that was there. The whole is the definition's
 -- own.
-use Rattle.std.specs.Prelude.{ℕ, List, take, drop}
+use Rattle.std.specs.Prelude.{ℕ, Bool, List, take, drop}
 use Rattle.std.proofs.Math.Option.{Option}
-use Rattle.rfc6386.specs.Reads.{Rd, make, each, maybe, lit}
+use Rattle.rfc6386.specs.Reads.{Rd, when, make, each, maybe, lit}
 use Rattle.vp8_records.specs.declared.Segmentation.{Segmentation}
 use Rattle.rfc6386.specs.Runs.{or, over}
-use Rattle.rfc6386.specs.Coded.{Features, mv_of}
+use Rattle.rfc6386.specs.Coded.{Features, features, no_features, mv_of}
+
+-- the feature data where they are coded
+abbrev pub features_if : Bool → Rd Features
+features_if on = when on features no_features
 
 -- the feature data over a record's own
 unfoldable pub featured : Features → Segmentation → Segmentation

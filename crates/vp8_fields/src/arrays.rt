@@ -53,6 +53,5 @@ pub fn bytes_if<const N: usize>(dec: &mut BoolDecoder, on: bool, old: [u8; N]) -
     requires { Room dec.old (8 * N) }
     ensures { Ran (onto old.entry (when on (times N (make some (lit 8))) [])) dec.old result dec.new (8 * N) }
 {
-    // By an `if`, as in `deltas_if` and `segment_probs_if`: for `read_if` a closure that calls a reader of any N wants both clauses written.
     if on { bytes(dec, old) } else { old }
 }

@@ -4,7 +4,7 @@ ghost use Rattle.rfc6386.specs.Reads.{when, lit, make};
 ghost use Rattle.rfc6386.specs.Coded.{anew, features, mapped, segments};
 ghost use Rattle.rfc6386.specs.Call.{segmented};
 ghost use Rattle.bool_decoder.specs.Model.{Room, Passed, Ran};
-ghost use Rattle.vp8_fields.specs.Rows.{featured, onto};
+ghost use Rattle.vp8_fields.specs.Rows.{featured, features_if, onto};
 
 use crate::arrays::{bytes_or, sints_or};
 use bool_decoder::{BoolDecoder, Read};
@@ -32,6 +32,15 @@ fn feature_data(dec: &mut BoolDecoder, seg: Segmentation) -> Segmentation
     segmentation
 }
 
+// The same where `on` is set.
+#[inline(always)]
+fn feature_data_if(dec: &mut BoolDecoder, on: bool, seg: Segmentation) -> Segmentation
+    requires { Room dec.old 69 }
+    ensures { Ran (make (λ f. featured f seg) (features_if on)) dec.old result dec.new 69 }
+{
+    if on { feature_data(dec, seg) } else { seg }
+}
+
 // Whether the probabilities are coded: where the map is; to the Rust only where the feature data are too.
 fn probs_coded(mode: Mode, map: bool, feature: bool) -> bool
     ensures { result ≡ mapped mode map feature }
@@ -55,7 +64,7 @@ pub fn update_segmentation(
     let enabled = dec.read_flag();
     let map = dec.flag_if(enabled);
     let feature = dec.flag_if(enabled);
-    let mut segmentation = dec.read_if(feature, seg, |d| feature_data(d, seg));
+    let mut segmentation = feature_data_if(dec, feature, seg);
     let coded = probs_coded(mode, map, feature);
     segmentation.segmentation_enabled = enabled;
     segmentation.update_mb_segmentation_map = map;

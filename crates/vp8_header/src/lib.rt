@@ -5,8 +5,8 @@ ghost use Rattle.std.specs.Prelude.{◌≡◌, true, false};
 ghost use Rattle.vp8_records.specs.Start.{key_modes};
 ghost use Rattle.rfc6386.specs.Decoder.{bits, pick};
 ghost use Rattle.rfc6386.specs.Frame.{pixels, scale, snapshot};
-ghost use Rattle.rfc6386.specs.Reads.{make};
-ghost use Rattle.rfc6386.specs.Coded.{refresh, inter};
+ghost use Rattle.rfc6386.specs.Reads.{when, make};
+ghost use Rattle.rfc6386.specs.Coded.{refresh, inter, no_inter};
 ghost use Rattle.rfc6386.specs.Call.{keeping, probs_of, blocks};
 ghost use Rattle.bool_decoder.specs.Model.{state_of, Room, Ran};
 ghost use Rattle.vp8_header.specs.Stages.{first, first_of, refresh_of, second, second_of, inter_of, third, third_of, probs_in};
@@ -246,6 +246,24 @@ fn parse_inter(dec: &mut BoolDecoder, modes: ModeProbs, mv: MvProbs) -> InterFie
     }
 }
 
+// The same where the frame is one; the records stay where it is not.
+fn parse_inter_if(dec: &mut BoolDecoder, on: bool, modes: ModeProbs, mv: MvProbs) -> InterFields
+    requires { Room dec.old 386 }
+    ensures { Ran (make (inter_of modes mv) (when on inter no_inter)) dec.old result dec.new 386 }
+{
+    if on {
+        parse_inter(dec, modes, mv)
+    } else {
+        InterFields {
+            prob_intra: 0,
+            prob_last: 0,
+            prob_golden: 0,
+            mode_probs: modes,
+            mv_prob: mv,
+        }
+    }
+}
+
 // From the coefficient probabilities on (RFC 6386 sections 13.4 and 9.11).
 #[inline(always)]
 fn parse_third(dec: &mut BoolDecoder, key: bool, parser: Parser) -> Third
@@ -255,17 +273,7 @@ fn parse_third(dec: &mut BoolDecoder, key: bool, parser: Parser) -> Third
     let tokens = parse_token_prob_update(dec, parser.coeff_prob);
     let mb_no_coeff_skip = dec.read_flag();
     let prob_skip_false = dec.byte_if(mb_no_coeff_skip, 8);
-    // A key frame codes none of these: the numbers are 0, and the records stay.
-    let uncoded = InterFields {
-        prob_intra: 0,
-        prob_last: 0,
-        prob_golden: 0,
-        mode_probs: parser.mode_probs,
-        mv_prob: parser.mv_prob,
-    };
-    let inter = dec.read_if(!key, uncoded, |d| {
-        parse_inter(d, parser.mode_probs, parser.mv_prob)
-    });
+    let inter = parse_inter_if(dec, !key, parser.mode_probs, parser.mv_prob);
     Third {
         coeff_prob: tokens.value,
         mb_no_coeff_skip,

@@ -1,14 +1,14 @@
--- The reads under a flag: `make_if`.
+-- The reads under a flag: `make_on` and `make_off`.
 use native.Mathlib.Omega.{arith}
-use Rattle.bool_decoder.proofs.Chain.{on, upto}
-use Rattle.bool_decoder.proofs.Steps.{off}
+use Rattle.bool_decoder.proofs.Chain.{upto}
+use Rattle.bool_decoder.proofs.Steps.{done}
 use Rattle.rfc6386.specs.Runs.{over}
-use Rattle.bool_decoder.proofs.Made.{make_if, same}
+use Rattle.bool_decoder.proofs.Made.{make_on, make_off, same}
 use Rattle.vp8_fields.proofs.arrays.bytes_if.Goals as goal
 
 pub returns-then-on : goal.returns-then-on
-returns-then-on g c = same (make_if _ _ _ _) (on _ c.if-on.true c.bytes.ensures)
+returns-then-on g c = same (make_on _ _ _ c.if-on.true) c.bytes.ensures
 
 pub returns-else-on : goal.returns-else-on
 unfolding over
-returns-else-on g c = same (make_if _ _ _ _) (upto (omega arith) (off _ c.if-on.false))
+returns-else-on g c = upto (omega arith) (same (make_off _ _ _ c.if-on.false) done)

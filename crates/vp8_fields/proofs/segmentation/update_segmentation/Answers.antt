@@ -1,20 +1,16 @@
 -- Three flags, the feature data over the old record, then the probabilities: each the definition's value in its field.
-use borrow.Author.Rules.{rules}
 use mathlib.Core.Path.{sym}
-use Rattle.rfc6386.specs.Coded.{segments, features, no_features}
-use Rattle.rfc6386.specs.Runs.{over}
+use Rattle.rfc6386.specs.Coded.{segments}
 use Rattle.rfc6386.specs.Call.{segmented}
-use Rattle.bool_decoder.proofs.Steps.{then, done, passed, read_if}
+use Rattle.bool_decoder.proofs.Steps.{then, done, passed}
 use Rattle.vp8_fields.specs.Rows.{featured}
-use Rattle.bool_decoder.proofs.Made.{worth, makes, made, make_if, same}
+use Rattle.bool_decoder.proofs.Made.{worth, makes, made}
 use Rattle.vp8_fields.proofs.segmentation.update_segmentation.Goals as goal
 
 pub returns : goal.returns
-unfolding segments segmented featured over
+unfolding segments segmented featured
 returns c = let enabled = c.read_flag-enabled in
-    let read = c.read_if-segmentation.ensures in
-    let f = made (same (make_if features no_features (λ f. featured f c.args.seg) _)
-    (read_if {k = 69} read.set read.clear (λ p q x e. search rules))) in
+    let f = made c.feature_data_if-segmentation.ensures in
     let p = made (rw c.probs_coded-coded.ensures at c.segment_probs_if-segmentation.ensures) in
     passed c.with_past.ensures.value c.with_past.ensures.past
     (worth (λ i. record {
