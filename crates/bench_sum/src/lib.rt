@@ -19,6 +19,7 @@ pub trait Number: Copy {
 
     ghost values: { List Self → List ℕ };
 
+    // Its value.
     fn number(self) -> u64
         ensures { result ≡ value self };
 

@@ -1,5 +1,5 @@
 -- A literal's loop, of any engine: reading the bools that are left, from here, gives what reading all of them gives.
-use mathlib.Core.Path.{◌≡◌, sym, ap, ◌∙◌}
+use mathlib.Core.Path.{◌≡◌, refl, sym, ap, ◌∙◌}
 use mathlib.Core.Bool.{Bool, true, false}
 use mathlib.Core.List.{List}
 use Prim.Native.Nat.{ℕ, zero, suc, ◌+◌, ◌-◌, ◌*◌, ◌^◌, ◌≤◌, ◌<◌}
@@ -8,10 +8,16 @@ use native.Mathlib.Numerals.{add-one}
 use native.Mathlib.Omega.{arith}
 use lib.Dec.{lit<, lit≤}
 use lib.Signed.{mag}
+use mir.Val.{bool_byte}
 use Rattle.rfc6386.specs.Decoder.{bits, Out}
 use Rattle.rfc6386.specs.Reads.{run, flag, bit, lit_from, lit, signed}
 use Rattle.bool_decoder.specs.Engine.{Engine, bools_of, Good, Ran, Lit}
 use Rattle.rfc6386.proofs.Trees.{run_bind}
+
+-- a bool as a number
+pub byte_bit : (b : Bool) → bool_byte b ≡ bit b
+byte_bit true = refl
+byte_bit false = refl
 
 pub bit_le : (b : Bool) → bit b ≤ 1
 bit_le true = lit≤ tt

@@ -15,9 +15,11 @@ pub struct Shown {
     pub position: u32,
     // In bits: how far beyond that end the decoder has gone.
     pub past: u32,
-    // The snapshot: the range, the byte before the point, and how many bits of the byte that is being read are left.
+    // The snapshot: the range.
     pub range: u8,
+    // The byte before the point.
     pub value: u8,
+    // How many bits of the byte that is being read are left.
     pub count: u8,
     // How many bools were read.
     pub bools: u32,

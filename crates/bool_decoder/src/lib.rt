@@ -5,7 +5,7 @@
 
 ghost use Rattle.std.specs.Prelude.{◌≡◌, ◌+◌, ◌-◌, ◌*◌, ◌^◌, ◌<◌, ◌≤◌, min};
 ghost use Rattle.rfc6386.specs.Decoder.{split, refusal_of};
-ghost use Rattle.rfc6386.specs.Reads.{bit, signed};
+ghost use Rattle.rfc6386.specs.Reads.{signed};
 ghost use Rattle.bool_decoder.specs.Window.{Held, v_of, v_after, limit_of, Over};
 ghost use Rattle.bool_decoder.specs.Refusal.{number_of, refused_by};
 
@@ -54,7 +54,9 @@ pub struct BoolDecoderState {
 // What was read, and how many bits the decoder has then gone past the area's end.
 #[derive(Clone, Copy, PartialEq, Eq, Debug)]
 pub struct Read<T> {
+    // What was read.
     pub value: T,
+    // The bits past the end.
     pub past: u32,
 }
 
@@ -129,13 +131,6 @@ fn fill(area: &[u8], value: u64, doublings: u32, shift: u32) -> u64
     }
     let byte = byte_at(area, ((doublings + shift) / 8 + 7) as usize) as u64;
     moved + (byte << (free - 8))
-}
-
-// The number of a bit; by hand, since the definition has `bit`.
-fn digit(b: bool) -> u32
-    ensures { result ≡ bit b }
-{
-    if b { 1 } else { 0 }
 }
 
 // A magnitude with its sign.
@@ -356,7 +351,7 @@ impl<'a> BoolDecoder<'a> {
         let mut local = *self;
         let mut value: u32 = 0;
         for _ in 0..nbits {
-            value = value * 2 + digit(local.read_flag());
+            value = value * 2 + u32::from(local.read_flag());
         }
         *self = local;
         value

@@ -1,5 +1,5 @@
 // The reads that sub-headers are made of: under a flag that was read before, or under one of their own with another value where it is
-// clear.
+// clear. By an `if` in each: one function over a closure is slower, since not every closure is inlined (docs/SPEED.md).
 ghost use Rattle.std.specs.Prelude.{false, ◌+◌, ◌≤◌};
 ghost use Rattle.rfc6386.specs.Reads.{flag, when, lit, sint, make, maybe, or_else};
 ghost use Rattle.rfc6386.specs.Runs.{or};

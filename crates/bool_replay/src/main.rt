@@ -95,11 +95,13 @@ impl Tally {
         self.operations = self
             .operations
             .wrapping_add((script.reads.len() / 2) as u64);
-        if !is_line(script, stored, Engine::Window, out) {
-            self.set_apart(rt, "the window");
-        }
-        if !is_line(script, stored, Engine::Slow, out) {
-            self.set_apart(rt, "the slow engine");
+        for (engine, name) in [
+            (Engine::Window, "the window"),
+            (Engine::Slow, "the slow engine"),
+        ] {
+            if !is_line(script, stored, engine, out) {
+                self.set_apart(rt, name);
+            }
         }
     }
 

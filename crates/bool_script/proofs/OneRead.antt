@@ -1,16 +1,17 @@
 -- A read of a decoder of any type, by the law of bare reads: where it leaves the decoder, and what is told of it.
 use Prim.Native.Nat.{ℕ}
 use mathlib.Core.Path.{◌≡◌, refl, sym, ap, ◌∙◌}
-use mathlib.Core.Bool.{Bool, true, false}
+use mathlib.Core.Bool.{Bool}
 use mathlib.Core.List.{List, [], ◌∷◌, ◌++◌}
 use lib.IntN.{ℤ}
 use mir.Val.{bool_byte}
 use denote.Ref.{Bor}
 use Rattle.std.specs.Prelude.{Ok, Err}
 use Rattle.rfc6386.specs.Decoder.{State, Out, bits, position, past}
-use Rattle.rfc6386.specs.Reads.{Rd, make, bit}
+use Rattle.rfc6386.specs.Reads.{Rd, make}
 use Rattle.bool_decoder.specs.declared.Read.{Read}
 use Rattle.bool_decoder.specs.declared.ReadRefusal.{ReadRefusal}
+use Rattle.bool_decoder.proofs.Literal.{byte_bit}
 use Rattle.bool_slow.specs.Asks.{Ask, Value, Bit, Plain, Signed, Refused, answered}
 use Rattle.bool_decoder.specs.Bare.{Meets}
 use Rattle.bool_slow.proofs.Tells.{meets_gives}
@@ -41,11 +42,6 @@ module _ {D A X : Type 0} (area_of : D → Bor (List ℕ)) (state_of : D → Sta
         leaves = record { state = sym (ap (λ (o : Out Value). o.then) p.is); over = p.over };
         told = (same, ap (λ (o : Out Value). o.got) p.is);
       }
-
--- a bool as a number
-byte_bit : (b : Bool) → bool_byte b ≡ bit b
-byte_bit true = refl
-byte_bit false = refl
 
 -- the texts of values
 pub bit_text : (b : Bool) {n : ℕ} → n ≡ bool_byte b → decimal_of n ≡ value_text (Bit b)

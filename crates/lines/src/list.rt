@@ -1,5 +1,5 @@
 // What the replays share: a stored list of records, each known by its first byte, and what is told of it.
-ghost use Rattle.std.specs.Prelude.{◌≡◌, ◌+◌, ◌%◌, ◌^◌};
+ghost use Rattle.std.specs.Prelude.{◌≡◌, ◌+◌, ◌%◌, ◌^◌, IfErr};
 
 use crate::run::{Flow, turns};
 use crate::{CutShort, take_byte};
@@ -52,7 +52,9 @@ pub fn records<R: Read, E: From<CutShort>, F: FnMut(&mut R, u8) -> Result<(), E>
 }
 
 // After the end, which nothing follows.
-pub fn end(input: &mut impl Read) -> Result<(), Fault> {
+pub fn end(input: &mut impl Read) -> Result<(), Fault>
+    ensures { IfErr result (λ fault. fault ≡ Fault.More) }
+{
     match take_byte(input) {
         Some(_) => Err(Fault::More),
         None => Ok(()),

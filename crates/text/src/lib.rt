@@ -17,6 +17,7 @@ pub trait Buffer: AsSlice<u8> {
     // Which bytes, where they are lent, so that who lent them learns what was put.
     ghost place: { Self → ℕ };
 
+    // Puts one byte at a place.
     fn put(&mut self, at: usize, b: u8)
         requires { at < length (Self.items self.old) }
         ensures bytes { Self.items self.new ≡ set (Self.items self.old) at b }

@@ -1,5 +1,5 @@
-// Several numbers in a row, read over an array of old ones. The three loops differ in the read: as a closure it would want a clause of its
-// own in each.
+// Several numbers in a row, read over an array of old ones. The three loops differ in the read, and are not one loop that takes a closure:
+// the checker makes no proof of a function of any N that passes one.
 ghost use Rattle.std.proofs.Math.Option.{some};
 ghost use Rattle.std.specs.Prelude.{[], ◌+◌, ◌*◌, ◌≤◌};
 ghost use Rattle.rfc6386.specs.Reads.{when, lit, sint, make, times, maybe};

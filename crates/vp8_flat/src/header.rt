@@ -8,8 +8,11 @@ use vp8_records::{Header, Look, QuantIndices, Refusal};
 // What a refusal carries: 2 its code, 3 the end and the length, 6 the length; else zeros. The number is 0 where the frame is accepted.
 #[derive(Clone, Copy, PartialEq, Eq, Debug)]
 pub struct Carried {
+    // The number of the refusal.
     pub number: u32,
+    // The first that it carries.
     pub a: u64,
+    // The second.
     pub b: u64,
 }
 

@@ -90,9 +90,8 @@ pub fn put_parser<B: Buffer>(out: &mut Text<B>, parser: Parser)
     put_modes(out, parser.mode_probs);
 }
 
-// Three bodies of one shape stand below: no closure's bound can name a text over an array of any length, and a trait wants as many impls.
-
-// All kept numbers, as an array.
+// All kept numbers, as an array. `motion` and `modes` have the same shape: no closure's bound can name a text over an array of any length,
+// and a trait wants as many impls.
 pub fn kept(parser: Parser) -> [u8; 1126]
     ensures { result ≡ kept_bytes parser }
 {

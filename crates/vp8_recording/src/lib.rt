@@ -10,7 +10,7 @@ ghost use Rattle.ivf.specs.Listed.{places_of};
 ghost use Rattle.vp8_recording.specs.Plays.{all_in, Plays};
 
 use ivf::Walked;
-use vp8_records::{Mode, Parser};
+use vp8_records::{Mode, Parsed, Parser};
 
 // What a recording leaves.
 #[derive(Clone, Copy)]
@@ -30,19 +30,58 @@ pub fn frame_at(file: &[u8], offset: u64, size: u32) -> &[u8]
     &rest[..rest.len().min(size as usize)]
 }
 
-// The frames that both lists name, one after the other.
-fn feed(parser: Parser, file: &[u8], offsets: &[u64], lengths: &[u32], mode: Mode) -> Parser
+// The frames that both lists name, one after the other; each answer is told, with how many came before it.
+fn feed<F: FnMut(usize, Parsed)>(
+    parser: Parser,
+    file: &[u8],
+    offsets: &[u64],
+    lengths: &[u32],
+    mode: Mode,
+    mut tell: F,
+) -> Parser
+    requires { F.IsAlwaysCallable tell }
     ensures { result ≡ after parser (all_in mode (bytes_of file.now (places_of offsets.now lengths.now))) }
 {
     let mut state = parser;
-    for (&offset, &length) in offsets.iter().zip(lengths) {
-        state = vp8_parser::parse_in(state, frame_at(file, offset, length), mode).parser;
+    for (i, (&offset, &length)) in offsets.iter().zip(lengths).enumerate() {
+        let answer = vp8_parser::parse_in(state, frame_at(file, offset, length), mode);
+        state = answer.parser;
+        tell(i, answer);
     }
     state
 }
 
-// Lists the frames of a recording, feeds each to the parser, and answers the parser that is left. Frames before a refusal are listed and
-// fed all the same.
+// Lists the frames of a recording, feeds each to the parser, tells its answer with its index, and answers the parser that is left. Frames
+// before a refusal are listed and fed all the same.
+pub fn play_each<F: FnMut(usize, Parsed)>(
+    parser: Parser,
+    file: &[u8],
+    offsets: &mut [u64],
+    lengths: &mut [u32],
+    mode: Mode,
+    tell: F,
+) -> Played
+    requires { F.IsAlwaysCallable tell }
+    ensures { Plays mode parser file.now result
+        offsets.old offsets.new lengths.old lengths.new }
+{
+    let walked = ivf::walk(file, offsets, lengths);
+    let count = walked.count;
+    let state = feed(
+        parser,
+        file,
+        &offsets[..count],
+        &lengths[..count],
+        mode,
+        tell,
+    );
+    Played {
+        walked,
+        parser: state,
+    }
+}
+
+// The same, with no answer told.
 pub fn play_in(
     parser: Parser,
     file: &[u8],
@@ -53,13 +92,7 @@ pub fn play_in(
     ensures { Plays mode parser file.now result
         offsets.old offsets.new lengths.old lengths.new }
 {
-    let walked = ivf::walk(file, offsets, lengths);
-    let count = walked.count;
-    let state = feed(parser, file, &offsets[..count], &lengths[..count], mode);
-    Played {
-        walked,
-        parser: state,
-    }
+    play_each(parser, file, offsets, lengths, mode, |_, _| {})
 }
 
 // The same, with frames read as the Rust reads them.

@@ -4,14 +4,9 @@ use mathlib.Core.Bool.{Bool, true, false}
 use native.Mathlib.Omega.{arith}
 use mir.Val.{bool_byte}
 use Rattle.rfc6386.specs.Reads.{flag, bit}
-use Rattle.bool_decoder.proofs.Literal.{begin, turn, end}
+use Rattle.bool_decoder.proofs.Literal.{byte_bit, begin, turn, end}
 use Rattle.bool_slow.proofs.Steps.{moved}
 use Rattle.bool_slow.proofs.SlowDecoder.read_literal.Goals as goal
-
--- a bool as a number
-byte_bit : (b : Bool) → bool_byte b ≡ bit b
-byte_bit true = refl
-byte_bit false = refl
 
 pub loop-init : goal.loop-init
 loop-init c = let d = c.args.self.now in

@@ -6,10 +6,10 @@ use Rattle.rfc6386.specs.Call.{after}
 use Rattle.ivf.specs.Walk.{Place, bytes_of}
 use Rattle.ivf.proofs.Fills.{named}
 use Rattle.vp8_recording.specs.Plays.{all_in}
-use Rattle.vp8_recording.proofs.play_in.Goals as goal
+use Rattle.vp8_recording.proofs.play_each.Goals as goal
 
 pub returns : goal.returns
-returns c = let t = c.walk-walked.ensures in
+returns g c = let t = c.walk-walked.ensures in
     let a = c.args in
     record {
       listed = t;
