@@ -1,6 +1,5 @@
 // The motion vector probabilities: RFC 6386 section 17.2.
-ghost use Rattle.std.specs.Prelude.{◌≡◌, ◌+◌, ◌≤◌};
-ghost use Rattle.vp8_probs.specs.Tables.{mv_update};
+ghost use Rattle.std.specs.Prelude.{◌≡◌, ◌≤◌, length};
 ghost use Rattle.vp8_records.specs.Layout.{flat_mv_context, laid_mv_context};
 ghost use Rattle.rfc6386.specs.Reads.{make};
 ghost use Rattle.rfc6386.specs.Runs.{or};
@@ -34,15 +33,15 @@ fn mv_or(dec: &mut BoolDecoder, p: u8, other: u8) -> u8
     }
 }
 
-// The nineteen of one component, whose chances stand in the table from `at` on.
+// The nineteen of one component, at these chances. Beside them goes an index: of what is written through a `zip` nothing could be proved.
 #[inline(always)]
-fn mv_context(dec: &mut BoolDecoder, table: &[u8; 38], at: usize, row: MvContext) -> MvContext
-    requires { (table.now ≡ mv_update) × (at + 19 ≤ 38) × Room dec.old 152 }
-    ensures { Ran (row_over flat_mv_context laid_mv_context 19 coded_mv mv_update at row) dec.old result dec.new 152 }
+fn mv_context(dec: &mut BoolDecoder, chances: &[u8], row: MvContext) -> MvContext
+    requires { (length chances.now ≡ 19) × Room dec.old 152 }
+    ensures { Ran (row_over flat_mv_context laid_mv_context 19 coded_mv chances.now 0 row) dec.old result dec.new 152 }
 {
     let mut out = row;
-    for j in 0..19 {
-        out.v[j] = mv_or(dec, table[at + j], out.v[j]);
+    for (j, value) in out.v.iter_mut().enumerate() {
+        *value = mv_or(dec, chances[j], *value);
     }
     out
 }
@@ -55,8 +54,8 @@ pub fn parse_mv_prob_update(dec: &mut BoolDecoder, mv_probs: MvProbs) -> Read<Mv
 {
     let mut out = mv_probs;
     let table = MV_UPDATE_PROBS;
-    for i in 0..2 {
-        out.v[i] = mv_context(dec, &table, i * 19, out.v[i]);
+    for (i, chances) in table.chunks_exact(19).enumerate() {
+        out.v[i] = mv_context(dec, chances, out.v[i]);
     }
     dec.with_past(out)
 }

@@ -1,7 +1,5 @@
-use Prim.Native.Nat.{◌+◌}
 use lib.ListN.{get_or}
 use Rattle.bool_decoder.proofs.Each.{Turns}
-use Rattle.vp8_probs.specs.Tables.{mv_update}
 use Rattle.rfc6386.specs.Reads.{make}
 use Rattle.rfc6386.specs.Runs.{or}
 use Rattle.vp8_fields.specs.Rows.{coded_mv}
@@ -9,4 +7,4 @@ use Rattle.vp8_fields.proofs.motion.mv_context.Given as goal
 
 abbrev pub invariant-loop-j : goal.invariant-loop-j
 invariant-loop-j l =
-    Turns (λ i x. make (λ u. or u x) (coded_mv (get_or mv_update (l.at + i) 0))) 8 l.fn.dec l.fn.row.v l.out.v l.dec l.j
+    Turns (λ i x. make (λ u. or u x) (coded_mv (get_or l.chances i 0))) 8 l.fn.dec l.fn.row.v l.value-items l.dec l.j
