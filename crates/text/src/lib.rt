@@ -61,7 +61,7 @@ impl<B: Buffer> Model for Text<B> {
 pub fn part(out: &[u8], n: usize) -> &[u8]
     ensures { (result.now ≡ take n out.now) × (result.ref_ptr ≡ out.entry.ref_ptr) }
 {
-    if n < out.len() { &out[..n] } else { out }
+    &out[..n.min(out.len())]
 }
 
 fn glyph(d: u8) -> u8

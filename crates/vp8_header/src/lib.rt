@@ -331,11 +331,11 @@ pub fn scale(code: u16) -> u8
     (code / 16384) as u8
 }
 
-// Macroblock columns of a width, or rows of a height; wider than a u16 on the way, since 15 more may not fit.
+// Macroblock columns of a width, or rows of a height; by `div_ceil`, since 15 more may not fit a u16.
 fn blocks(n: u16) -> u16
     ensures { result ≡ blocks n }
 {
-    ((n as u32 + 15) / 16) as u16
+    n.div_ceil(16)
 }
 
 // The header of what the three stages read; its partition sizes are still to come.
