@@ -1,5 +1,5 @@
--- What a caller is told by a list of reads is the definition's, of any engine, by induction on the list; so both engines, each from its
--- fresh decoder, tell the same.
+-- What a caller is told by a list of reads is the definition's, of any engine, by induction on the list; what a decoder tells by the
+-- contracts of the bare one is told by its engine, read by read; so both engines, each from its fresh decoder, tell the same.
 use Prim.Native.Nat.{ℕ}
 use mathlib.Core.Path.{◌≡◌, refl, ap, sym, ◌∙◌, subst}
 use mathlib.Core.List.{List, ◌∷◌}
@@ -7,6 +7,8 @@ use denote.Ref.{Bor}
 use Rattle.std.specs.Prelude.{Result, Ok, Err}
 use Rattle.rfc6386.specs.Decoder.{State, Out, bits, start, past}
 use Rattle.rfc6386.specs.Reads.{Rd, make}
+use Rattle.bool_decoder.specs.Engine.{Engine}
+use Rattle.bool_decoder.specs.Engine as By
 use Rattle.bool_decoder.specs.declared.BoolDecoder.{BoolDecoder}
 use Rattle.bool_decoder.specs.declared.Read.{Read}
 use Rattle.bool_decoder.specs.declared.ReadRefusal.{ReadRefusal}
@@ -15,7 +17,7 @@ use Rattle.bool_slow.specs.declared.SlowDecoder.{SlowDecoder}
 use Rattle.bool_slow.specs.Asks.{Ask, Value, Bit, Plain, Signed, Gives}
 use Rattle.bool_decoder.specs.Bare.{over, past_of, Fresh, Meets, shown_of}
 use Rattle.bool_slow.specs.Slow as S
-use Rattle.bool_slow.specs.Told.{Told, tells, given, carried, Answers, Tells}
+use Rattle.bool_slow.specs.Told.{Told, tells, given, carried, EngineTells, Answers, Tells}
 use Rattle.bool_slow.specs.Told as T
 use Rattle.bool_slow.proofs.Answers.{allowed, refused}
 
@@ -23,6 +25,23 @@ use Rattle.bool_slow.proofs.Answers.{allowed, refused}
 first : (area : List ℕ) (asks : List Ask) → Out Value → List Told
 first area asks o =
     record { value = o.got; past = past (bits area) o.then; shown = shown_of (bits area) o.then } ∷ tells area asks o.then
+
+pub engine_told_is : {E : Engine} {area : List ℕ} {d : E.Dec} {asks : List Ask} {ts : List Told} → EngineTells E area d asks ts
+    → ts ≡ tells area asks (E.state_of area d)
+unfolding tells first
+engine_told_is T.none = refl
+engine_told_is {area = area} {asks = a ∷ asks} (T.next {v = v} g s t) =
+    (λ i. record { value = v; past = g.past i; shown = s i } ∷ engine_told_is t i) ∙ sym (ap (first area asks) g.is)
+
+-- any engine's answers from its fresh decoder, to any reads
+pub engine_meets : {E : Engine} {area : List ℕ} {d : E.Dec} {asks : List Ask} {ts : List Told} → By.Fresh E area d
+    → EngineTells E area d asks ts → ts ≡ tells area asks (start area)
+engine_meets {area = area} {asks = asks} f t = engine_told_is t ∙ ap (tells area asks) f.state
+
+-- any two engines over the same bytes tell the same of any reads, each from its fresh decoder
+pub engines_agree : {E F : Engine} {area : List ℕ} {d : E.Dec} {e : F.Dec} {asks : List Ask} {xs ys : List Told}
+    → By.Fresh E area d → By.Fresh F area e → EngineTells E area d asks xs → EngineTells F area e asks ys → xs ≡ ys
+engines_agree f g s t = engine_meets f s ∙ sym (engine_meets g t)
 
 module _ {D : Type 0} (area : D → Bor (List ℕ)) (state : D → State) where
   -- an answer is the definition's
@@ -39,20 +58,23 @@ module _ {D : Type 0} (area : D → Bor (List ℕ)) (state : D → State) where
   gives {d} (T.plain w r m) = meets_gives Plain _ d w w r m
   gives {d} (T.sign w r m) = meets_gives Signed _ d w _ r m
 
-  pub told_is : {at : Bor (List ℕ)} {d : D} {asks : List Ask} {ts : List Told} → area d ≡ at → Tells area state d asks ts
-      → ts ≡ tells at.now asks (state d)
-  unfolding tells first
-  told_is same T.none = refl
-  told_is {at} {d} {asks = a ∷ asks} same (T.next {v = v} {q = q} {d' = d'} p s t) =
+  -- what a decoder tells by its contracts, its engine tells
+  pub engine_tells : {at : Bor (List ℕ)} {d : D} {asks : List Ask} {ts : List Told} → area d ≡ at → Tells area state d asks ts
+      → EngineTells (over area state at) at.now d asks ts
+  engine_tells same T.none = T.none
+  engine_tells {at} {d} {asks = a ∷ asks} same (T.next {v = v} {q = q} {d' = d'} p s t) =
       let g = subst (λ (b : Bor (List ℕ)). Gives (over area state b) b.now a d v q d') same (gives p) in
       let l : bits (area d').now ≡ bits at.now = ap (λ (b : Bor (List ℕ)). bits b.now) g.over in
-      (λ i. record { value = v; past = g.past i; shown = (s ∙ ap (λ n. shown_of n (state d')) l) i } ∷ told_is g.over t i)
-      ∙ sym (ap (first at.now asks) g.is)
+      T.next g (s ∙ ap (λ n. shown_of n (state d')) l) (engine_tells g.over t)
+
+  pub told_is : {at : Bor (List ℕ)} {d : D} {asks : List Ask} {ts : List Told} → area d ≡ at → Tells area state d asks ts
+      → ts ≡ tells at.now asks (state d)
+  told_is same t = engine_told_is (engine_tells same t)
 
   -- an engine's answers from its fresh decoder
   pub meets : {at : Bor (List ℕ)} {d : D} {asks : List Ask} {ts : List Told} → Fresh area state at d → Tells area state d asks ts
       → ts ≡ tells at.now asks (start at.now)
-  meets {at = at} {asks = asks} f t = told_is f.over t ∙ ap (tells at.now asks) f.state
+  meets f t = engine_meets f (engine_tells f.over t)
 
 -- **the two engines agree**: over the same bytes and for every list of reads, whatever the two fresh decoders answer and show is the same
 pub agree : {at bt : Bor (List ℕ)} {d : BoolDecoder} {e : SlowDecoder} {asks : List Ask} {xs ys : List Told} → at.now ≡ bt.now

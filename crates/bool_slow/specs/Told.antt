@@ -4,13 +4,14 @@ use Rattle.std.specs.Borrow.{Bor}
 use Rattle.rfc6386.specs.Decoder.{State, bits, past}
 use Rattle.rfc6386.specs.Reads.{bool, lit, sint}
 use Rattle.bool_decoder.specs.Bare.{Meets, past_of, shown_of}
+use Rattle.bool_decoder.specs.Engine.{Engine}
 use Rattle.bool_decoder.specs.Model as W
 use Rattle.bool_decoder.specs.Refusal.{number_of}
 use Rattle.bool_decoder.specs.declared.bare.Shown.{Shown}
 use Rattle.bool_decoder.specs.declared.BoolDecoder.{BoolDecoder}
 use Rattle.bool_decoder.specs.declared.Read.{Read}
 use Rattle.bool_decoder.specs.declared.ReadRefusal.{ReadRefusal}
-use Rattle.bool_slow.specs.Asks.{Ask, ask_bool, ask_plain, ask_signed, answered, Value, Bit, Plain, Signed, Refused}
+use Rattle.bool_slow.specs.Asks.{Ask, ask_bool, ask_plain, ask_signed, answered, Value, Bit, Plain, Signed, Refused, Gives}
 use Rattle.bool_slow.specs.Slow as S
 use Rattle.bool_slow.specs.declared.SlowDecoder.{SlowDecoder}
 
@@ -26,6 +27,13 @@ tells area [] s = []
 tells area (a ∷ asks) s =
     let o = answered area a s in
     record { value = o.got; past = past (bits area) o.then; shown = shown_of (bits area) o.then } ∷ tells area asks o.then
+
+-- any engine's, from its decoder d on, to any reads: each is answered from the decoder that the one before it has left
+pub data EngineTells (E : Engine) (area : List ℕ) : E.Dec → List Ask → List Told → Type 0 where
+  none : {d : E.Dec} → EngineTells E area d [] []
+  next : {d : E.Dec} {a : Ask} {v : Value} {q : ℕ} {d' : E.Dec} {s : Shown} {asks : List Ask} {ts : List Told}
+      → Gives E area a d v q d' → s ≡ shown_of (bits area) (E.state_of area d') → EngineTells E area d' asks ts
+      → EngineTells E area d (a ∷ asks) (record { value = v; past = q; shown = s } ∷ ts)
 
 -- what an answer gives, and the bits past the end that it carries: of a refusal those of the decoder, which it leaves
 abbrev pub given : {A : Type 0} → (A → Value) → Result (Read A) ReadRefusal → Value
