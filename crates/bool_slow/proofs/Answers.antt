@@ -1,5 +1,5 @@
 -- What the bare decoder answers, of any engine: a read that is allowed is the run of its tree, by one step of `make`; one that is refused
--- leaves the state.
+-- leaves the state. No answer leaves a choice.
 use Prim.Native.Nat.{ℕ, zero, suc, ◌<◌}
 use native.Mathlib.Omega.{arith}
 use mathlib.Core.Path.{◌≡◌, refl, ap, sym, ◌∙◌}
@@ -8,7 +8,7 @@ use Rattle.rfc6386.specs.Decoder.{State, Out, bits}
 use Rattle.rfc6386.specs.Reads.{Rd, ret, run, make}
 use Rattle.rfc6386.proofs.Trees.{run_bind}
 use Rattle.bool_decoder.specs.Engine.{Engine, out, past_of, Allows, Refuses}
-use Rattle.bool_slow.specs.Asks.{Value, Refused, or_refused, answered, Gives}
+use Rattle.bool_slow.specs.Asks.{Ask, Value, Refused, or_refused, answered, Gives}
 
 made : {A : Type 0} (f : A → Value) (m : Rd A) (l : ℕ) (s : State) {a : A} {t : State}
     → run m l s ≡ out a t → run (make f m) l s ≡ out (f a) t
@@ -40,3 +40,14 @@ refused {E} {area} {d} {n} m o g = record {
   past = refl;
   over = o;
 }
+
+-- any two answers of an engine to one read are equal, where its decoders are functions of the states that they stand for
+pub one_given : {E : Engine} {S : Type 0} (all : Value → ℕ → E.Dec → S) {area : List ℕ}
+    → ((d e : E.Dec) → E.Over area d → E.Over area e → E.state_of area d ≡ E.state_of area e → d ≡ e)
+    → {a : Ask} {d : E.Dec} {v w : Value} {q t : ℕ} {e f : E.Dec} → Gives E area a d v q e → Gives E area a d w t f
+    → all v q e ≡ all w t f
+one_given {E} all {area} same {e = e} {f = f} p s =
+    let o = sym p.is ∙ s.is in
+    let left = same e f p.over s.over (ap (λ (x : Out Value). x.then) o) in
+    let beyond = p.past ∙ ap (past_of E area) left ∙ sym s.past in
+    λ i. all (o i).got (beyond i) (left i)

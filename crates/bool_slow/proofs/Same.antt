@@ -22,8 +22,11 @@ use Rattle.bool_slow.specs.declared.Hand.{Hand}
 use Rattle.bool_slow.specs.declared.SlowDecoder.{SlowDecoder}
 use Rattle.bool_slow.specs.Hand.{doublings_of, v_of, Over}
 use Rattle.bool_slow.specs.Hand as H
-use Rattle.bool_decoder.specs.Bare.{Meets}
+use Rattle.bool_slow.specs.Asks.{Ask, Value, Gives}
+use Rattle.bool_decoder.specs.Bare.{Meets, over}
 use Rattle.bool_slow.specs.Slow.{area_of, state_of, Fresh}
+use Rattle.bool_slow.specs.Slow as S
+use Rattle.bool_slow.proofs.Answers.{one_given}
 
 -- the two bytes that stand for a v, with so many bytes in and so many bits shifted out
 abbrev bytes_of : List ℕ → ℕ → ℕ → ℕ → ℕ
@@ -83,7 +86,18 @@ module _ {D : Type 0} (area : D → Bor (List ℕ)) (state : D → State)
   one_meets m d w k (Err n) (Ok q) x y = absurd (omega (arith, y.free, x.0.is, x.0.some))
   one_meets m d w k (Err n) (Err l) x y = (ap Err (same_refusal (x.0.is ∙ sym y.0.is)), x.1 ∙ sym y.1)
 
+  -- any read of its engine, by what it gives alone
+  pub one_gives : {at : Bor (List ℕ)} {a : Ask} {d : D} {v w : Value} {q t : ℕ} {e f : D}
+      → Gives (over area state at) at.now a d v q e → Gives (over area state at) at.now a d w t f → (v ≡ w) × (q ≡ t) × (e ≡ f)
+  one_gives p s =
+      let same = λ (d e : D) (x : area d ≡ _) (y : area e ≡ _). one d e (x ∙ sym y) in
+      (one_given (λ v q e. v) same p s, one_given (λ v q e. q) same p s, one_given (λ v q e. e) same p s)
+
 -- of a slow decoder
 pub one_answer : {A : Type 0} (m : Rd A) (d : SlowDecoder) (w k : ℕ) (r q : Result (Read A) ReadRefusal) {e f : SlowDecoder}
     → Meets area_of state_of m d w k r e → Meets area_of state_of m d w k q f → (r ≡ q) × (e ≡ f)
 one_answer = one_meets area_of state_of (λ d e. same)
+
+pub one_slow_gives : {at : Bor (List ℕ)} {a : Ask} {d : SlowDecoder} {v w : Value} {q t : ℕ} {e f : SlowDecoder}
+    → Gives (S.over at) at.now a d v q e → Gives (S.over at) at.now a d w t f → (v ≡ w) × (q ≡ t) × (e ≡ f)
+one_slow_gives p s = one_gives area_of state_of (λ d e. same) p s
