@@ -38,11 +38,6 @@ pub engine_meets : {E : Engine} {area : List ℕ} {d : E.Dec} {asks : List Ask} 
     → EngineTells E area d asks ts → ts ≡ tells area asks (start area)
 engine_meets {area = area} {asks = asks} f t = engine_told_is t ∙ ap (tells area asks) f.state
 
--- any two engines over the same bytes tell the same of any reads, each from its fresh decoder
-pub engines_agree : {E F : Engine} {area : List ℕ} {d : E.Dec} {e : F.Dec} {asks : List Ask} {xs ys : List Told}
-    → By.Fresh E area d → By.Fresh F area e → EngineTells E area d asks xs → EngineTells F area e asks ys → xs ≡ ys
-engines_agree f g s t = engine_meets f s ∙ sym (engine_meets g t)
-
 module _ {D : Type 0} (area : D → Bor (List ℕ)) (state : D → State) where
   -- an answer is the definition's
   pub meets_gives : {A : Type 0} (f : A → Value) (m : Rd A) (d : D) (w k : ℕ) (r : Result (Read A) ReadRefusal) {d' : D}
@@ -76,7 +71,12 @@ module _ {D : Type 0} (area : D → Bor (List ℕ)) (state : D → State) where
       → ts ≡ tells at.now asks (start at.now)
   meets f t = engine_meets f (engine_tells f.over t)
 
+-- the window tells what any engine does over the same bytes, each from its fresh decoder; of the engine what it gives is all that is known
+pub window_agrees : {E : Engine} {at : Bor (List ℕ)} {area : List ℕ} {d : BoolDecoder} {e : E.Dec} {asks : List Ask} {xs ys : List Told}
+    → at.now ≡ area → W.Fresh at d → By.Fresh E area e → T.WindowTells d asks xs → EngineTells E area e asks ys → xs ≡ ys
+window_agrees {asks = asks} b f g w s = meets _ _ f w ∙ ap (λ area. tells area asks (start area)) b ∙ sym (engine_meets g s)
+
 -- **the two engines agree**: over the same bytes and for every list of reads, whatever the two fresh decoders answer and show is the same
 pub agree : {at bt : Bor (List ℕ)} {d : BoolDecoder} {e : SlowDecoder} {asks : List Ask} {xs ys : List Told} → at.now ≡ bt.now
     → W.Fresh at d → S.Fresh bt e → T.WindowTells d asks xs → T.SlowTells e asks ys → xs ≡ ys
-agree {asks = asks} b f g w s = meets _ _ f w ∙ ap (λ area. tells area asks (start area)) b ∙ sym (meets _ _ g s)
+agree b f g w s = window_agrees b f g w (engine_tells _ _ g.over s)
