@@ -1,7 +1,7 @@
 -- A read of a decoder of any type, by the law of bare reads: where it leaves the decoder, and what is told of it.
-use Prim.Native.Nat.{ℕ}
+use Prim.Native.Nat.{ℕ, ◌+◌}
 use mathlib.Core.Path.{◌≡◌, refl, sym, ap, ◌∙◌}
-use mathlib.Core.Bool.{Bool}
+use mathlib.Core.Bool.{Bool, true, false}
 use mathlib.Core.List.{List, [], ◌∷◌, ◌++◌}
 use lib.IntN.{ℤ}
 use mir.Val.{bool_byte}
@@ -15,7 +15,7 @@ use Rattle.bool_decoder.proofs.Literal.{byte_bit}
 use Rattle.bool_slow.specs.Asks.{Ask, Value, Bit, Plain, Signed, Refused, answered}
 use Rattle.bool_decoder.specs.Bare.{Meets}
 use Rattle.bool_slow.proofs.Tells.{meets_gives}
-use Rattle.text.specs.Digits.{decimal_of, signed_of}
+use Rattle.text.specs.Digits.{digits_of, decimal_of, signed_of}
 use Rattle.text.specs.Template.{ascii, filled}
 use Rattle.text.specs.Text.{Text, put, puts}
 use Rattle.text.proofs.Puts.{one, then, worded}
@@ -43,7 +43,15 @@ module _ {D A X : Type 0} (area_of : D → Bor (List ℕ)) (state_of : D → Sta
         told = (same, ap (λ (o : Out Value). o.got) p.is);
       }
 
--- the texts of values
+-- the texts of values; of a bool one digit
+digit : (b : Bool) → (48 + bool_byte b) ∷ [] ≡ value_text (Bit b)
+unfolding value_text decimal_of digits_of
+digit true = refl
+digit false = refl
+
+pub digit_text : (b : Bool) {n : ℕ} → n ≡ bool_byte b → (48 + n) ∷ [] ≡ value_text (Bit b)
+digit_text b e = ap (λ (n : ℕ). (48 + n) ∷ []) e ∙ digit b
+
 pub bit_text : (b : Bool) {n : ℕ} → n ≡ bool_byte b → decimal_of n ≡ value_text (Bit b)
 unfolding value_text
 bit_text b e = ap decimal_of (e ∙ byte_bit b)

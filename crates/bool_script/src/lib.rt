@@ -3,19 +3,20 @@
 // what the decoder shows; which engine made it has no say.
 #![tactic(auto)]
 
+pub mod engines;
 pub mod input;
 pub mod program;
 
 ghost use Rattle.std.specs.Prelude.{◌≡◌, true};
 ghost use Rattle.rfc6386.specs.Decoder.{bits};
 ghost use Rattle.bool_slow.specs.Asks.{answered};
-ghost use Rattle.text.specs.Text.{puts};
+ghost use Rattle.text.specs.Told.{told, Puts};
 ghost use Rattle.bool_script.specs.Script.{ask_of, asked, Leaves, known};
 ghost use Rattle.bool_script.specs.Line.{Tells, read_text, end_text, line_from, line_of};
 
-use bool_decoder::{BoolDecoder, ReadRefusal};
-use bool_slow::SlowDecoder;
+use bool_decoder::ReadRefusal;
 use bool_slow::bare::BareDecoder;
+use engines::{Decoder, fresh};
 use text::{Buffer, Text};
 
 // Which engine.
@@ -58,10 +59,10 @@ fn tell_value<D: BareDecoder, B: Buffer>(
     ask: Ask,
     out: &mut Text<B>,
 ) -> Result<(), ReadRefusal>
-    ensures { Tells D.area D.state (asked ask) dec.old out.old result dec.new out.new }
+    ensures { Tells D.area D.state (asked ask) dec.old (told B.place B.items out.old) result dec.new (told B.place B.items out.new) }
 {
     match ask {
-        Ask::Bool(prob) => out.decimal(u64::from(dec.ask_bool(prob)?.value)),
+        Ask::Bool(prob) => out.byte(b'0' + u8::from(dec.ask_bool(prob)?.value)),
         Ask::Plain(width) => out.decimal(u64::from(dec.ask_plain(u32::from(width))?.value)),
         Ask::Signed(width) => out.signed(dec.ask_signed(u32::from(width))?.value),
     }
@@ -71,8 +72,7 @@ fn tell_value<D: BareDecoder, B: Buffer>(
 // One read, and what the line says of it.
 fn step<D: BareDecoder, B: Buffer>(dec: &mut D, ask: Ask, out: &mut Text<B>)
     ensures leaves { Leaves D.area D.state (asked ask) dec.old dec.new }
-    ensures told { out.new ≡ puts out.old
-        (read_text (bits (D.area dec.old).now) (answered (D.area dec.old).now (asked ask) (D.state dec.old))) }
+    ensures told { Puts B.place B.items out.old (read_text (bits (D.area dec.old).now) (answered (D.area dec.old).now (asked ask) (D.state dec.old))) out.new }
 {
     if let Err(refusal) = tell_value(dec, ask, out) {
         out.byte(b'r');
@@ -84,7 +84,7 @@ fn step<D: BareDecoder, B: Buffer>(dec: &mut D, ask: Ask, out: &mut Text<B>)
 
 // What the decoder shows: range, value, count, position and bits past the end.
 fn finish<D: BareDecoder, B: Buffer>(dec: &D, out: &mut Text<B>)
-    ensures { out.new ≡ puts out.old (end_text (bits (D.area dec.now).now) (D.state dec.now)) }
+    ensures { Puts B.place B.items out.old (end_text (bits (D.area dec.now).now) (D.state dec.now)) out.new }
 {
     let seen = dec.shown();
     let shown = [
@@ -100,7 +100,7 @@ fn finish<D: BareDecoder, B: Buffer>(dec: &D, out: &mut Text<B>)
 
 // The line of the reads from a decoder on, with a space before every read but the first. A byte without its second is no read.
 fn tell_reads<D: BareDecoder + Drop, B: Buffer>(mut dec: D, reads: &[u8], out: &mut Text<B>)
-    ensures { out.new ≡ puts out.old (line_from (D.area dec).now true reads.now (D.state dec)) }
+    ensures { Puts B.place B.items out.old (line_from (D.area dec).now true reads.now (D.state dec)) out.new }
 {
     for (place, read) in reads.chunks_exact(2).enumerate() {
         if place != 0 {
@@ -113,11 +113,11 @@ fn tell_reads<D: BareDecoder + Drop, B: Buffer>(mut dec: D, reads: &[u8], out: &
 
 // The script's line, by either engine.
 pub fn line<B: Buffer>(area: &[u8], reads: &[u8], engine: Engine, out: &mut Text<B>)
-    ensures { out.new ≡ puts out.old (line_of area.now reads.now) }
+    ensures { Puts B.place B.items out.old (line_of area.now reads.now) out.new }
 {
-    match engine {
-        Engine::Window => tell_reads(BoolDecoder::new(area), reads, out),
-        Engine::Slow => tell_reads(SlowDecoder::init_bool_decoder(area), reads, out),
+    match fresh(engine, area) {
+        Decoder::Window(dec) => tell_reads(dec, reads, out),
+        Decoder::Slow(dec) => tell_reads(dec, reads, out),
     }
 }
 

@@ -5,7 +5,7 @@
 pub mod list;
 pub mod run;
 
-ghost use Rattle.std.specs.Prelude.{◌≡◌, ◌<◌, ◌≤◌, ◌↔◌, IfOk, IfErr, IsErrOf, length};
+ghost use Rattle.std.specs.Prelude.{◌≡◌, ◌<◌, ◌≤◌, ◌↔◌, ◌+◌, ◌*◌, IfOk, IfErr, IsErrOf, length, get_or};
 
 use std::io::Read;
 use std::{fmt, io};
@@ -136,12 +136,26 @@ pub fn take_array<const N: usize>(input: &mut impl Read) -> Result<Option<[u8; N
     }
 }
 
+// The number of two bytes, the least significant first.
+fn le2(b: [u8; 2]) -> u16
+    ensures { result ≡ get_or b 0 0 + get_or b 1 0 * 256 }
+{
+    u16::from_le_bytes(b)
+}
+
+// The same of four bytes.
+fn le4(b: [u8; 4]) -> u32
+    ensures { result ≡ get_or b 0 0 + get_or b 1 0 * 256 + get_or b 2 0 * 65536 + get_or b 3 0 * 16777216 }
+{
+    u32::from_le_bytes(b)
+}
+
 // The next two bytes as a number, the least significant first; none where the input ends at once.
 pub fn take_le2(input: &mut impl Read) -> Result<Option<u16>, CutShort> {
-    Ok(take_array(input)?.map(u16::from_le_bytes))
+    Ok(take_array(input)?.map(le2))
 }
 
 // The same of four bytes.
 pub fn take_le4(input: &mut impl Read) -> Result<Option<u32>, CutShort> {
-    Ok(take_array(input)?.map(u32::from_le_bytes))
+    Ok(take_array(input)?.map(le4))
 }

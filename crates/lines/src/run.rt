@@ -1,5 +1,5 @@
 // How the programs go over their input, and what they print of it.
-ghost use Rattle.std.specs.Prelude.{◌≤◌, length};
+ghost use Rattle.std.specs.Prelude.{◌≡◌, ◌≤◌, length};
 ghost use Rattle.lines.specs.Turns.{Turned};
 
 use crate::{show, take_all};
@@ -27,18 +27,18 @@ pub fn turns<E, F: FnMut() -> Flow<E>>(mut turn: F) -> Result<(), E>
 // Room for the longest line of any program: that of 1,024 reads of a script has under 26,000 bytes.
 pub type Line = Text<[u8; 32768]>;
 
-// What each turn puts into an empty line, printed. A turn that fails ends the run with a line that says what is wrong; a line that cannot
-// be written ends it too.
+// What each turn puts into a line, which is empty before it, printed. A turn that fails ends the run with a line that says what is wrong;
+// a line that cannot be written ends it too.
 pub fn tell_each<E: Display + Drop, F: FnMut(&mut Line) -> Flow<E>>(
     rt: &impl Print,
     mut turn: F,
 ) -> io::Result<()>
-    requires { (state : F) (line : _) → F.pre state line }
+    requires { (state : F) (line : _) → line.now.count ≡ 0 → F.pre state line }
 {
     let mut out = Line::new();
     turns(
         || -> Flow<io::Error>
-            requires { (state : F) (line : _) → F.pre state line }
+            requires { (state : F) (line : _) → line.now.count ≡ 0 → F.pre state line }
         {
             out.clear();
             match turn(&mut out) {

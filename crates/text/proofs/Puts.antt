@@ -129,6 +129,11 @@ then_one t u v xs b e d = then t u v xs (b ∷ []) e (d ∙ sym (puts_cons u b [
 pub worded : (t u : Text) (xs ys : List ℕ) → u ≡ puts t xs → xs ≡ ys → u ≡ puts t ys
 worded t u xs ys e d = e ∙ ap (puts t) d
 
+-- the same buffer and place under other names
+pub still : {B : Type 0} (place : B → ℕ) (items : B → List ℕ) {b c : B} {m n : ℕ} → b ≡ c → m ≡ n
+    → standing (place b) (items b) m ≡ standing (place c) (items c) n
+still place items e d = λ i. standing (place (e i)) (items (e i)) (d i)
+
 -- a buffer lent under any name takes the same bytes as one of the text's own, and keeps its name
 moved : (p : ℕ) (b : Bool) (xs ys : List ℕ) (m n : ℕ)
     → cond b (standing p ys m) (standing p xs n) ≡ standing p (cond b (text ys m) (text xs n)).buffer (cond b (text ys m) (text xs n)).count
@@ -161,3 +166,10 @@ pub place_puts : (t : Text) (xs : List ℕ) → (puts t xs).place ≡ t.place
 unfolding puts
 place_puts t [] = refl
 place_puts t (x ∷ xs) = place_puts (put t x) xs ∙ place_put t x
+
+-- who lends a slice learns what it ends as: the text stands in that slice, and is what a text of one's own would be
+pub lent : {p : ℕ} {xs : List ℕ} {n : ℕ} (bs : List ℕ) {t u : Text} → t ≡ standing p xs n → u ≡ puts t bs
+    → (u.place ≡ p) × (text u.buffer u.count ≡ puts (text xs n) bs)
+lent {p} {xs} {n} bs {t} {u} e d =
+    let whole = d ∙ ap (λ (v : Text). puts v bs) e ∙ puts_standing p xs n bs in
+    (ap (λ (v : Text). v.place) whole, ap (λ (v : Text). text v.buffer v.count) whole ∙ sym (puts_standing 0 xs n bs))

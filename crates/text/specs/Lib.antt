@@ -3,3 +3,4 @@ pub mod Text
 pub mod Digits
 pub mod Template
 pub mod Lines
+pub mod Told

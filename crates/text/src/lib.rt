@@ -5,12 +5,12 @@
 
 ghost use Rattle.std.specs.Prelude.{◌≡◌, ◌<◌, ℕ, List, length, min, set, take, replicate};
 ghost use Rattle.text.specs.Text.{text, standing, put, puts};
+ghost use Rattle.text.specs.Told.{told, Puts};
 ghost use Rattle.text.specs.Digits.{glyph as Digits·glyph, hex_of, decimal_of, signed_of};
 ghost use Rattle.text.specs.Template.{filled};
 ghost use Rattle.text.specs.Lines.{numbered};
 
 use std::convert::AsSlice;
-use std::marker::Model;
 
 // Where a text stands: bytes of a fixed number, each of which can be put.
 pub trait Buffer: AsSlice<u8> {
@@ -49,14 +49,6 @@ pub struct Text<B: Buffer> {
     count: usize,
 }
 
-impl<B: Buffer> Model for Text<B> {
-    ghost use Rattle.text.specs.Text.{Text, standing};
-
-    ghost Value = { Text };
-
-    ghost view = { λ t. standing (B.place t.buffer) (B.items t.buffer) t.count };
-}
-
 // The first n bytes of a buffer, where they stand; all of it where n is more.
 pub fn part(out: &[u8], n: usize) -> &[u8]
     ensures { (result.now ≡ take n out.now) × (result.ref_ptr ≡ out.entry.ref_ptr) }
@@ -71,10 +63,38 @@ fn glyph(d: u8) -> u8
     if d < 10 { b'0' + d } else { b'a' + (d - 10) }
 }
 
+// One byte at a place, where the buffer has it; the place after it.
+#[inline(always)]
+fn put_at<B: Buffer>(buffer: &mut B, at: usize, b: u8) -> usize
+    ensures { standing (B.place buffer.new) (B.items buffer.new) result
+        ≡ put (standing (B.place buffer.old) (B.items buffer.old) at) b }
+{
+    if at < buffer.as_slice().len() {
+        buffer.put(at, b);
+        at + 1
+    } else {
+        at
+    }
+}
+
+// The decimal digits of n from a place on, those before the last, and the last; the place after them, which is handed on and not kept, so
+// that it stays in a register. It calls itself at most 19 deep.
+#[tactic(auto, using(crate::proofs::Spelling::puts_one, crate::proofs::Spelling::puts_more))]
+fn digits_at<B: Buffer>(buffer: &mut B, at: usize, n: u64) -> usize
+    ensures { standing (B.place buffer.new) (B.items buffer.new) result
+        ≡ puts (standing (B.place buffer.old) (B.items buffer.old) at) (decimal_of n) }
+{
+    let mut to = at;
+    if n >= 10 {
+        to = digits_at(buffer, at, n / 10);
+    }
+    put_at(buffer, to, b'0' + (n % 10) as u8)
+}
+
 impl<const N: usize> Text<[u8; N]> {
     // Nothing yet, in zeros.
     pub fn new() -> Self
-        ensures { result ≡ text (replicate N 0) 0 }
+        ensures { told (λ _. 0) (λ xs. xs) result ≡ text (replicate N 0) 0 }
     {
         Text::over([0; N])
     }
@@ -83,85 +103,89 @@ impl<const N: usize> Text<[u8; N]> {
 impl<B: Buffer> Text<B> {
     // Nothing yet, over what is in the buffer.
     pub fn over(buffer: B) -> Self
-        ensures { result ≡ standing (B.place buffer) (B.items buffer) 0 }
+        ensures { told B.place B.items result ≡ standing (B.place buffer) (B.items buffer) 0 }
     {
         Text { buffer, count: 0 }
     }
 
     // Begins with the first `count` bytes of the buffer.
     pub fn after(buffer: B, count: usize) -> Self
-        ensures { result ≡ standing (B.place buffer) (B.items buffer) count }
+        ensures { told B.place B.items result ≡ standing (B.place buffer) (B.items buffer) count }
     {
         Text { buffer, count }
     }
 
     // The text itself.
     pub fn as_bytes(&self) -> &[u8]
-        ensures { result.now ≡ take self.now.count self.now.buffer }
+        ensures { result.now ≡ take self.now.count (B.items self.now.buffer) }
     {
         part(self.buffer.as_slice(), self.count)
     }
 
+    // How many bytes of the buffer the text is; more than it has, where the text was begun so.
+    pub fn count(&self) -> usize
+        ensures { result ≡ self.now.count }
+    {
+        self.count
+    }
+
     // Begins again, over the old text.
     pub fn clear(&mut self)
-        ensures { self.new ≡ standing self.old.place self.old.buffer 0 }
+        ensures { told B.place B.items self.new ≡ standing (B.place self.old.buffer) (B.items self.old.buffer) 0 }
     {
         self.count = 0;
     }
 
     // The whole buffer, of which the text is the start.
     pub fn into_buffer(self) -> B
-        ensures bytes { B.items result ≡ self.buffer }
-        ensures place { B.place result ≡ self.place }
+        ensures bytes { B.items result ≡ B.items self.buffer }
+        ensures place { B.place result ≡ B.place self.buffer }
     {
         self.buffer
     }
 
     // One byte.
     pub fn byte(&mut self, b: u8)
-        ensures { self.new ≡ put self.old b }
+        ensures { told B.place B.items self.new ≡ put (told B.place B.items self.old) b }
     {
-        if self.count < self.buffer.as_slice().len() {
-            self.buffer.put(self.count, b);
-            self.count += 1;
-        }
+        self.count = put_at(&mut self.buffer, self.count, b);
     }
 
     // All bytes of `src`.
     #[tactic(auto, using(crate::proofs::Puts::puts_nil, crate::proofs::Puts::puts_turn))]
     pub fn bytes(&mut self, src: &[u8])
-        ensures { self.new ≡ puts self.old src.now }
+        ensures { Puts B.place B.items self.old src.now self.new }
     {
+        let mut at = self.count;
         for &b in src {
-            self.byte(b);
+            at = put_at(&mut self.buffer, at, b);
         }
+        self.count = at;
     }
 
     // Two digits a byte, in lower case.
     #[tactic(auto, using(crate::proofs::Puts::hex_nil, crate::proofs::Puts::hex_turn))]
     pub fn hex(&mut self, src: &[u8])
-        ensures { self.new ≡ puts self.old (hex_of src.now) }
+        ensures { Puts B.place B.items self.old (hex_of src.now) self.new }
     {
+        let mut at = self.count;
         for &b in src {
-            self.byte(glyph(b / 16));
-            self.byte(glyph(b % 16));
+            at = put_at(&mut self.buffer, at, glyph(b / 16));
+            at = put_at(&mut self.buffer, at, glyph(b % 16));
         }
+        self.count = at;
     }
 
-    // The decimal digits of n, as few as hold it: those before the last, and the last. It calls itself at most 19 deep.
-    #[tactic(auto, using(crate::proofs::Spelling::puts_one, crate::proofs::Spelling::puts_more))]
+    // The decimal digits of n, as few as hold it.
     pub fn decimal(&mut self, n: u64)
-        ensures { self.new ≡ puts self.old (decimal_of n) }
+        ensures { Puts B.place B.items self.old (decimal_of n) self.new }
     {
-        if n >= 10 {
-            self.decimal(n / 10);
-        }
-        self.byte(b'0' + (n % 10) as u8);
+        self.count = digits_at(&mut self.buffer, self.count, n);
     }
 
     // In decimal, with a minus sign below 0.
     pub fn signed(&mut self, z: i32)
-        ensures { self.new ≡ puts self.old (signed_of z) }
+        ensures { Puts B.place B.items self.old (signed_of z) self.new }
     {
         if z < 0 {
             self.byte(b'-');
@@ -171,31 +195,45 @@ impl<B: Buffer> Text<B> {
 
     // A template: its words, and the numbers in decimal where its bars stand.
     pub fn fill(&mut self, template: &[u8], numbers: &[u32])
-        ensures { self.new ≡ puts self.old (filled template.now numbers.now) }
+        ensures { Puts B.place B.items self.old (filled template.now numbers.now) self.new }
     {
+        let mut at = self.count;
         let mut left = numbers;
         for &b in template {
             if b != b'|' {
-                self.byte(b);
+                at = put_at(&mut self.buffer, at, b);
             } else if let [n, rest @ ..] = left {
-                self.decimal(u64::from(*n));
+                at = digits_at(&mut self.buffer, at, u64::from(*n));
                 left = rest;
             }
         }
+        self.count = at;
     }
 
     // Lines, each with the number and a space in front.
     pub fn number_lines(&mut self, n: u64, lines: &[u8])
-        ensures { self.new ≡ puts self.old (numbered n lines.now) }
+        ensures { Puts B.place B.items self.old (numbered n lines.now) self.new }
     {
+        let mut at = self.count;
         let mut begins = true;
         for &b in lines {
             if begins {
-                self.decimal(n);
-                self.byte(b' ');
+                at = digits_at(&mut self.buffer, at, n);
+                at = put_at(&mut self.buffer, at, b' ');
             }
-            self.byte(b);
+            at = put_at(&mut self.buffer, at, b);
             begins = b == b'\n';
         }
+        self.count = at;
     }
+}
+
+// The same bytes put into a slice that is lent, after its first `at`; where the text then ends. So does whoever lends a text a slice: what
+// the slice ends as is told by the text's own contracts.
+pub fn bytes_at(out: &mut [u8], at: usize, src: &[u8]) -> usize
+    ensures { text out.new result ≡ puts (text out.old at) src.now }
+{
+    let mut to = Text::after(out, at);
+    to.bytes(src);
+    to.count()
 }

@@ -7,7 +7,7 @@ pub mod header;
 ghost use Rattle.std.specs.Prelude.{◌≡◌, map};
 ghost use Rattle.std.proofs.Common.{of_z};
 ghost use Rattle.std.specs.Int.{w8};
-ghost use Rattle.text.specs.Text.{puts};
+ghost use Rattle.text.specs.Told.{Puts};
 ghost use Rattle.vp8_records.specs.Layout.{flat_coeffs, flat_mv};
 ghost use Rattle.vp8_flat.specs.Bytes.{bit_of, flat_modes, segmentation_bytes, adjustment_bytes, kept_bytes};
 
@@ -29,7 +29,7 @@ pub fn byte_of(x: i8) -> u8
 }
 
 fn put_signed<B: Buffer>(out: &mut Text<B>, v: [i8; 4])
-    ensures { out.new ≡ puts out.old (map (of_z w8) v) }
+    ensures { Puts B.place B.items out.old (map (of_z w8) v) out.new }
 {
     for x in v {
         out.byte(byte_of(x));
@@ -38,7 +38,7 @@ fn put_signed<B: Buffer>(out: &mut Text<B>, v: [i8; 4])
 
 // The 38 motion probabilities (section 17.2).
 pub fn put_motion<B: Buffer>(out: &mut Text<B>, motion: MvProbs)
-    ensures { out.new ≡ puts out.old (flat_mv motion) }
+    ensures { Puts B.place B.items out.old (flat_mv motion) out.new }
 {
     for context in motion.v {
         out.bytes(&context.v);
@@ -48,7 +48,7 @@ pub fn put_motion<B: Buffer>(out: &mut Text<B>, motion: MvProbs)
 // The seven mode probabilities (section 16.2).
 #[tactic(auto, using(text::proofs::Puts::writes))]
 pub fn put_modes<B: Buffer>(out: &mut Text<B>, modes: ModeProbs)
-    ensures { out.new ≡ puts out.old (flat_modes modes) }
+    ensures { Puts B.place B.items out.old (flat_modes modes) out.new }
 {
     out.bytes(&modes.intra_16x16_prob);
     out.bytes(&modes.intra_chroma_prob);
@@ -57,7 +57,7 @@ pub fn put_modes<B: Buffer>(out: &mut Text<B>, modes: ModeProbs)
 // Segmentation (section 9.3).
 #[tactic(auto, using(text::proofs::Puts::writes))]
 pub fn put_segmentation<B: Buffer>(out: &mut Text<B>, s: Segmentation)
-    ensures { out.new ≡ puts out.old (segmentation_bytes s) }
+    ensures { Puts B.place B.items out.old (segmentation_bytes s) out.new }
 {
     out.byte(bit(s.segmentation_enabled));
     out.byte(bit(s.update_mb_segmentation_map));
@@ -71,7 +71,7 @@ pub fn put_segmentation<B: Buffer>(out: &mut Text<B>, s: Segmentation)
 // The filter's adjustments (section 9.4).
 #[tactic(auto, using(text::proofs::Puts::writes))]
 pub fn put_adjustments<B: Buffer>(out: &mut Text<B>, a: MbLfAdjustments)
-    ensures { out.new ≡ puts out.old (adjustment_bytes a) }
+    ensures { Puts B.place B.items out.old (adjustment_bytes a) out.new }
 {
     out.byte(bit(a.loop_filter_adj_enable));
     out.byte(bit(a.mode_ref_lf_delta_update));
@@ -81,7 +81,7 @@ pub fn put_adjustments<B: Buffer>(out: &mut Text<B>, a: MbLfAdjustments)
 
 // All kept numbers.
 pub fn put_parser<B: Buffer>(out: &mut Text<B>, parser: Parser)
-    ensures { out.new ≡ puts out.old (kept_bytes parser) }
+    ensures { Puts B.place B.items out.old (kept_bytes parser) out.new }
 {
     put_segmentation(out, parser.segmentation);
     put_adjustments(out, parser.mb_lf_adjust);

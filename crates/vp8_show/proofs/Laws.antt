@@ -15,7 +15,7 @@ use mir.Facts.{to_z-of_z}
 use Rattle.std.specs.Prelude.{Result, Ok, Err}
 use Rattle.vp8_records.specs.declared.Parsed.{Parsed}
 use Rattle.vp8_records.specs.declared.Look.{Look}
-use Rattle.vp8_records.specs.declared.Refusal.TheVariants.{InvalidPartitionSize}
+use Rattle.vp8_records.specs.declared.Refusal.TheVariants.{ChunkTooShort, InvalidPartitionSize}
 use Rattle.vp8_records.specs.declared.PeekRefusal.{PeekRefusal}
 use Rattle.vp8_records.specs.declared.PeekRefusal.TheVariants.{TooShort, StartCode}
 use Rattle.vp8_records.specs.Start.{fresh, blank}
@@ -53,6 +53,12 @@ pub end : (t u : Text) (sizes : List ℕ) (i from : ℕ) → length sizes ≤ i 
 unfolding partition_lines
 end t u sizes i from h q =
     sym (puts_nil u) ∙ sym (ap (λ (l : List ℕ). puts u (partition_lines i from l)) (drop_of_length-le sizes h)) ∙ q
+
+-- the line of a look that is cut short is that of refusal 1
+pub look_short : (template word code : List ℕ) (r : Result Look PeekRefusal) → r ≡ Err TooShort
+    → refusal_text word code [] [] (Err ChunkTooShort) ≡ look_text template word code r
+unfolding look_text
+look_short template word code r e = rw e
 
 -- the line of a look, with its first word and the words of the line of an answer
 pub dump_look : (r : Result Look PeekRefusal)

@@ -1,6 +1,6 @@
 // The line of the dump: `ok` and every number of the header, or `err` and the refusal, and at the end the kept numbers after the call.
 ghost use Rattle.std.specs.Prelude.{◌≡◌, ◌++◌};
-ghost use Rattle.text.specs.Text.{puts};
+ghost use Rattle.text.specs.Told.{Puts};
 ghost use Rattle.text.specs.Digits.{hex_of};
 ghost use Rattle.vp8_show.specs.Dumped.{delta_text, quant_text, probs_text, header_text, answer_text, dumped, dumped_look};
 
@@ -19,7 +19,7 @@ const WORDS: Words<'static> = Words {
 
 // A delta with its sign, after a comma.
 fn delta<B: Buffer>(out: &mut Text<B>, z: i8)
-    ensures { out.new ≡ puts out.old (delta_text z) }
+    ensures { Puts B.place B.items out.old (delta_text z) out.new }
 {
     out.byte(b',');
     out.signed(i32::from(z));
@@ -27,7 +27,7 @@ fn delta<B: Buffer>(out: &mut Text<B>, z: i8)
 
 // The quantizer index and the five deltas.
 fn quantizer<B: Buffer>(out: &mut Text<B>, q: QuantIndices)
-    ensures { out.new ≡ puts out.old (quant_text q) }
+    ensures { Puts B.place B.items out.old (quant_text q) out.new }
 {
     named(out, b" q=", u64::from(q.y_ac_qi));
     delta(out, q.y_dc_delta);
@@ -39,14 +39,14 @@ fn quantizer<B: Buffer>(out: &mut Text<B>, q: QuantIndices)
 
 // A name, then bytes as hexadecimal digits.
 fn named_bytes<B: Buffer>(out: &mut Text<B>, name: &[u8], bytes: &[u8])
-    ensures { out.new ≡ puts out.old (name.now ++ hex_of bytes.now) }
+    ensures { Puts B.place B.items out.old (name.now ++ hex_of bytes.now) out.new }
 {
     out.bytes(name);
     out.hex(bytes);
 }
 
 fn probabilities<B: Buffer>(out: &mut Text<B>, h: Header)
-    ensures { out.new ≡ puts out.old (probs_text h) }
+    ensures { Puts B.place B.items out.old (probs_text h) out.new }
 {
     named_bytes(out, b" modes=", &vp8_flat::modes(h.mode_probs));
     named_bytes(out, b" mv=", &vp8_flat::motion(h.mv_prob));
@@ -56,7 +56,7 @@ fn probabilities<B: Buffer>(out: &mut Text<B>, h: Header)
 // In this order: the tag, the sizes, the filter and the partitions; the quantizer; what the frame refreshes and copies, and its single
 // probabilities; the others; the decoder's snapshot, and what follows from the whole header.
 fn header<B: Buffer>(out: &mut Text<B>, h: Header)
-    ensures { out.new ≡ puts out.old (header_text h) }
+    ensures { Puts B.place B.items out.old (header_text h) out.new }
 {
     out.bytes(b"ok");
     out.fill(
@@ -78,7 +78,7 @@ fn header<B: Buffer>(out: &mut Text<B>, h: Header)
 
 #[tactic(auto, using(text::proofs::Puts::writes), unfolding(crate::specs::Dumped::answer_text))]
 fn answer<B: Buffer>(out: &mut Text<B>, parsed: Parsed)
-    ensures { out.new ≡ puts out.old (answer_text parsed) }
+    ensures { Puts B.place B.items out.old (answer_text parsed) out.new }
 {
     match parsed.outcome {
         Ok(()) => header(out, parsed.header),
@@ -89,7 +89,7 @@ fn answer<B: Buffer>(out: &mut Text<B>, parsed: Parsed)
 // The line of an answer, without its end; under 6,000 bytes.
 #[tactic(auto, using(text::proofs::Puts::writes), unfolding(crate::specs::Dumped::dumped))]
 pub fn line<B: Buffer>(out: &mut Text<B>, parsed: Parsed)
-    ensures { out.new ≡ puts out.old (dumped parsed) }
+    ensures { Puts B.place B.items out.old (dumped parsed) out.new }
 {
     answer(out, parsed);
     named_bytes(out, b" st=", &vp8_flat::kept(parsed.parser));
@@ -97,7 +97,7 @@ pub fn line<B: Buffer>(out: &mut Text<B>, parsed: Parsed)
 
 // The line of a look, without its end; under 256 bytes.
 pub fn look<B: Buffer>(out: &mut Text<B>, peeked: Result<Look, PeekRefusal>)
-    ensures { out.new ≡ puts out.old (dumped_look peeked) }
+    ensures { Puts B.place B.items out.old (dumped_look peeked) out.new }
 {
     out.bytes(b"peek ");
     looked(out, &WORDS, peeked);

@@ -7,7 +7,7 @@ pub mod input;
 pub mod print;
 
 ghost use Rattle.std.specs.Prelude.{Err, ◌≡◌, ◌++◌};
-ghost use Rattle.text.specs.Text.{puts};
+ghost use Rattle.text.specs.Told.{Puts};
 ghost use Rattle.text.specs.Digits.{decimal_of};
 ghost use Rattle.vp8_show.specs.Refusal.{refusal_text, look_text};
 
@@ -30,7 +30,7 @@ struct Words<'a> {
 
 // A word, then a number.
 fn named<B: Buffer>(out: &mut Text<B>, word: &[u8], n: u64)
-    ensures { out.new ≡ puts out.old (word.now ++ decimal_of n) }
+    ensures { Puts B.place B.items out.old (word.now ++ decimal_of n) out.new }
 {
     out.bytes(word);
     out.decimal(n);
@@ -39,8 +39,7 @@ fn named<B: Buffer>(out: &mut Text<B>, word: &[u8], n: u64)
 // A refusal: its number, and what 2 and 3 carry.
 #[tactic(auto, using(text::proofs::Puts::writes), unfolding(crate::specs::Refusal::refusal_text))]
 fn refused<B: Buffer>(out: &mut Text<B>, words: &Words, refusal: Refusal)
-    ensures { out.new ≡ puts out.old
-        (refusal_text words.now.refused.now words.now.code.now words.now.end.now words.now.length.now (Err refusal)) }
+    ensures { Puts B.place B.items out.old (refusal_text words.now.refused.now words.now.code.now words.now.end.now words.now.length.now (Err refusal)) out.new }
 {
     named(out, words.refused, u64::from(refusal.number()));
     match refusal {
@@ -56,7 +55,7 @@ fn refused<B: Buffer>(out: &mut Text<B>, words: &Words, refusal: Refusal)
 // What a look saw, or its refusal.
 #[tactic(auto, using(text::proofs::Puts::writes), unfolding(crate::specs::Refusal::look_text, crate::specs::Refusal::refusal_text))]
 fn looked<B: Buffer>(out: &mut Text<B>, words: &Words, peeked: Result<Look, PeekRefusal>)
-    ensures { out.new ≡ puts out.old (look_text words.now.seen.now words.now.refused.now words.now.code.now peeked) }
+    ensures { Puts B.place B.items out.old (look_text words.now.seen.now words.now.refused.now words.now.code.now peeked) out.new }
 {
     match peeked {
         Ok(look) => out.fill(words.seen, &vp8_flat::header::look(look)),

@@ -1,6 +1,6 @@
 // The lines of the printing program: what an accepted frame is, and where each of its partitions stands; or the refusal.
 ghost use Rattle.std.specs.Prelude.{◌≡◌, ◌-◌, ◌*◌, ◌≤◌, length, take};
-ghost use Rattle.text.specs.Text.{puts};
+ghost use Rattle.text.specs.Told.{Puts};
 ghost use Rattle.vp8_flat.specs.Numbers.{partition_count};
 ghost use Rattle.vp8_show.specs.Printed.{frame_line, partition_line, partition_lines, first_start, accepted_text};
 ghost use Rattle.vp8_show.specs.Printed.{printed, printed_at, printed_look};
@@ -20,7 +20,7 @@ const WORDS: Words<'static> = Words {
 
 // The first line: what the frame is.
 fn frame_line<B: Buffer>(out: &mut Text<B>, h: Header)
-    ensures { out.new ≡ puts out.old (frame_line h) }
+    ensures { Puts B.place B.items out.old (frame_line h) out.new }
 {
     out.fill(
         b"accepted key | version | show | chunk | first | size |x| parts | bools |\n",
@@ -40,7 +40,7 @@ fn frame_line<B: Buffer>(out: &mut Text<B>, h: Header)
 
 // The line of a partition.
 fn partition_line<B: Buffer>(out: &mut Text<B>, index: u64, start: u64, length: u64)
-    ensures { out.new ≡ puts out.old (partition_line index start length) }
+    ensures { Puts B.place B.items out.old (partition_line index start length) out.new }
 {
     named(out, b"part ", index);
     named(out, b" start ", start);
@@ -52,7 +52,7 @@ fn partition_line<B: Buffer>(out: &mut Text<B>, index: u64, start: u64, length: 
 fn partition_lines<B: Buffer>(out: &mut Text<B>, sizes: &[u32], start: u64)
     requires few { length sizes.now ≤ 8 }
     requires low { start ≤ 8589934592 }
-    ensures { out.new ≡ puts out.old (partition_lines 0 start sizes.now) }
+    ensures { Puts B.place B.items out.old (partition_lines 0 start sizes.now) out.new }
 {
     let mut from = start;
     for (i, &size) in sizes.iter().enumerate() {
@@ -72,7 +72,7 @@ fn first_start(h: Header) -> u64
 
 #[tactic(auto, using(text::proofs::Puts::writes), unfolding(crate::specs::Printed::accepted_text))]
 fn accepted<B: Buffer>(out: &mut Text<B>, h: Header)
-    ensures { out.new ≡ puts out.old (accepted_text h) }
+    ensures { Puts B.place B.items out.old (accepted_text h) out.new }
 {
     frame_line(out, h);
     let count = partitions(h.log2_nbr_of_dct_partitions) as usize;
@@ -82,7 +82,7 @@ fn accepted<B: Buffer>(out: &mut Text<B>, h: Header)
 // The lines of an answer; under 1,024 bytes.
 #[tactic(auto, using(text::proofs::Puts::writes), unfolding(crate::specs::Printed::printed))]
 pub fn answer<B: Buffer>(out: &mut Text<B>, parsed: Parsed)
-    ensures { out.new ≡ puts out.old (printed parsed) }
+    ensures { Puts B.place B.items out.old (printed parsed) out.new }
 {
     match parsed.outcome {
         Ok(()) => accepted(out, parsed.header),
@@ -102,7 +102,7 @@ pub fn tell(rt: &impl Print, parsed: Parsed) {
 
 // The lines of an answer, of which there are under 1,024 bytes, each with an index and a space in front; under 2,048 bytes.
 pub fn numbered<B: Buffer>(out: &mut Text<B>, index: u64, parsed: Parsed)
-    ensures { out.new ≡ puts out.old (printed_at index parsed) }
+    ensures { Puts B.place B.items out.old (printed_at index parsed) out.new }
 {
     let mut lines = Text::<[u8; 1024]>::new();
     answer(&mut lines, parsed);
@@ -118,7 +118,7 @@ pub fn tell_numbered(rt: &impl Print, index: u64, parsed: Parsed) {
 
 // The line of a look; under 256 bytes.
 pub fn look<B: Buffer>(out: &mut Text<B>, peeked: Result<Look, PeekRefusal>)
-    ensures { out.new ≡ puts out.old (printed_look peeked) }
+    ensures { Puts B.place B.items out.old (printed_look peeked) out.new }
 {
     looked(out, &WORDS, peeked);
     out.byte(b'\n');

@@ -3,7 +3,8 @@ use Rattle.std.proofs.Common.{rules}
 use mathlib.Core.Path.{◌≡◌, refl}
 use Rattle.std.specs.Prelude.{Err}
 use Rattle.bool_slow.specs.Asks.{Bit, Plain, Signed}
-use Rattle.bool_script.proofs.OneRead.{tells_value, tells_refusal, bit_text, plain_text, signed_text}
+use Rattle.text.proofs.Puts.{one}
+use Rattle.bool_script.proofs.OneRead.{tells_value, tells_refusal, digit_text, plain_text, signed_text}
 use Rattle.bool_script.proofs.tell_value.Goals as goal
 
 pub returns-in_err-ask_bool-in-Bool : goal.returns-in_err-ask_bool-in-Bool
@@ -13,7 +14,7 @@ returns-in_err-ask_bool-in-Bool g c =
 
 pub returns-in_ok-ask_bool-in-Bool : goal.returns-in_ok-ask_bool-in-Bool
 returns-in_ok-ask_bool-in-Bool g c =
-    rw c.in-Bool.is (tells_value _ _ Bit _ c.in_ok-ask_bool-in-Bool.ensures c.decimal.ensures (bit_text _ c.from.ensures))
+    rw c.in-Bool.is (tells_value _ _ Bit _ c.in_ok-ask_bool-in-Bool.ensures (one _ _ _ c.byte.ensures) (digit_text _ c.from.ensures))
 
 pub returns-in_err-ask_plain-in-Plain : goal.returns-in_err-ask_plain-in-Plain
 returns-in_err-ask_plain-in-Plain g c =
@@ -23,7 +24,7 @@ returns-in_err-ask_plain-in-Plain g c =
 pub returns-in_ok-ask_plain-in-Plain : goal.returns-in_ok-ask_plain-in-Plain
 returns-in_ok-ask_plain-in-Plain g c =
     rw (c.in-Plain.is, ← c.from-in-Plain.ensures)
-    (tells_value _ _ Plain _ c.in_ok-ask_plain-in-Plain.ensures c.decimal-in-Plain.ensures (plain_text _ c.from-in-Plain-2.ensures))
+    (tells_value _ _ Plain _ c.in_ok-ask_plain-in-Plain.ensures c.decimal.ensures (plain_text _ c.from-in-Plain-2.ensures))
 
 pub returns-in_err-ask_signed-in-Signed : goal.returns-in_err-ask_signed-in-Signed
 returns-in_err-ask_signed-in-Signed g c =

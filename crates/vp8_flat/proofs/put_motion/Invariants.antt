@@ -1,8 +1,8 @@
-use mathlib.Core.Path.{◌≡◌}
 use lib.ListN.{take}
-use Rattle.text.specs.Text.{puts}
+use Rattle.text.specs.Told.{Puts}
 use Rattle.vp8_records.specs.Layout.{joined, flat_mv_context}
 use Rattle.vp8_flat.proofs.put_motion.Given as goal
 
 abbrev pub invariant-loop-context : goal.invariant-loop-context
-invariant-loop-context g l = l.out ≡ puts l.initial.out (joined flat_mv_context (take l.context-index l.context-items))
+invariant-loop-context g l =
+    Puts g.B.Buffer.place g.B.AsSlice.items l.initial.out (joined flat_mv_context (take l.context-index l.context-items)) l.out

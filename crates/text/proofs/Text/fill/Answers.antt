@@ -3,6 +3,7 @@ use native.Mathlib.Omega.{arith}
 use mathlib.Core.Path.{refl, ap, ◌∙◌}
 use lib.ListN.{drop, length-drop}
 use lib.Seq.{take_all}
+use Rattle.text.proofs.Puts.{still}
 use Rattle.text.proofs.Templates.{turn_number, turn_none, turn_other, end}
 use Rattle.text.proofs.Text.fill.Goals.{then-b-ne124, else-b-ne124+in_default, else-b-ne124+in-len1-up}
 use Rattle.text.proofs.Text.fill.Goals as goal
@@ -15,10 +16,15 @@ loop-b-preserved g c =
     let inv = c.loop-b.invariant in
     let more = c.loop-b-test.true in
     elim c.if-b-ne124.branch [
-      | then-b-ne124 w ↦ turn_other inv more w.if-b-ne124.true (w.self-is ∙ w.byte.ensures) (ap (λ s. s.now) w.left-is)
-      | else-b-ne124+in_default w ↦ turn_none inv more w.if-b-ne124.false w.in_default.len_below w.self-is (ap (λ s. s.now) w.left-is)
+      | then-b-ne124 w ↦
+          turn_other inv more w.if-b-ne124.true (still g.B.Buffer.place g.B.AsSlice.items (ap (λ s. s.buffer) w.self-is) w.at-is ∙ w.put_at-at.ensures)
+          (ap (λ s. s.now) w.left-is)
+      | else-b-ne124+in_default w ↦
+          turn_none inv more w.if-b-ne124.false w.in_default.len_below (still g.B.Buffer.place g.B.AsSlice.items (ap (λ s. s.buffer) w.self-is) w.at-is)
+          (ap (λ s. s.now) w.left-is)
       | else-b-ne124+in-len1-up w ↦
-          turn_number inv more w.if-b-ne124.false w.in-len1-up.len_at_least w.from.ensures (w.self-is ∙ w.decimal.ensures)
+          turn_number inv more w.if-b-ne124.false w.in-len1-up.len_at_least w.from.ensures
+          (still g.B.Buffer.place g.B.AsSlice.items (ap (λ s. s.buffer) w.self-is) w.at-is ∙ w.digits_at-at.ensures)
           (ap (λ s. s.now) w.left-is ∙ take_all _ (drop 1 c.loop-b.left.now) (omega (arith, length-drop 1 c.loop-b.left.now)))
     ]
 

@@ -9,6 +9,7 @@ use mir.Syntax.{w32}
 use mir.Facts.{to_z-of_z}
 use borrow.Author.Tests.{ltb-true}
 use Rattle.text.specs.Text.{Text, put, puts}
+use Rattle.text.specs.Told.{told}
 use Rattle.text.specs.Digits.{decimal_of, signed_of}
 use Rattle.text.proofs.Puts.{puts_cons}
 use Rattle.text.proofs.Text.signed.Goals.{then-z-lt0, else-z-lt0}
@@ -29,8 +30,9 @@ other (negsuc k) n t u v h m e d = cc
 pub returns : goal.returns
 returns g c =
     let read = to_z-of_z {w = w32} c.ranges.z in
+    let view = told g.B.Buffer.place g.B.AsSlice.items in
     let size = c.from.ensures ∙ c.unsigned_abs.ensures.value ∙ ap nat_abs read in
     elim c.if-z-lt0.branch [
-      | then-z-lt0 w ↦ negative c.args.z _ _ _ _ (rw read at w.if-z-lt0.true) size (w.self-is ∙ w.byte.ensures) c.decimal.ensures
-      | else-z-lt0 w ↦ other c.args.z _ _ _ _ (rw read at w.if-z-lt0.false) size w.self-is c.decimal.ensures
+      | then-z-lt0 w ↦ negative c.args.z _ _ _ _ (rw read at w.if-z-lt0.true) size (ap view w.self-is ∙ w.byte.ensures) c.decimal.ensures
+      | else-z-lt0 w ↦ other c.args.z _ _ _ _ (rw read at w.if-z-lt0.false) size (ap view w.self-is) c.decimal.ensures
     ]
