@@ -103,6 +103,25 @@ eight area first f same =
     ) in
     (omega (arith, is, f 0, f 1, f 2, f 3, f 4, f 5, f 6, f 7), rw is e₈)
 
+-- eight bytes that are read one by one, as the window that an area starts with
+module _ (area : List ℕ) {a b c d e f g h : ℕ} (p₀ : a ≡ get_or area 0 0) (p₁ : b ≡ get_or area 1 0) (p₂ : c ≡ get_or area 2 0)
+    (p₃ : d ≡ get_or area 3 0) (p₄ : e ≡ get_or area 4 0) (p₅ : f ≡ get_or area 5 0) (p₆ : g ≡ get_or area 6 0)
+    (p₇ : h ≡ get_or area 7 0) where
+  one_by_one : (i : ℕ) → i < 8 → get_or (a ∷ b ∷ c ∷ d ∷ e ∷ f ∷ g ∷ h ∷ []) i 0 ≡ get_or area i 0
+  one_by_one zero l = p₀
+  one_by_one (suc zero) l = p₁
+  one_by_one (suc (suc zero)) l = p₂
+  one_by_one (suc (suc (suc zero))) l = p₃
+  one_by_one (suc (suc (suc (suc zero)))) l = p₄
+  one_by_one (suc (suc (suc (suc (suc zero))))) l = p₅
+  one_by_one (suc (suc (suc (suc (suc (suc zero)))))) l = p₆
+  one_by_one (suc (suc (suc (suc (suc (suc (suc zero))))))) l = p₇
+  one_by_one (suc (suc (suc (suc (suc (suc (suc (suc i)))))))) l = absurd (omega (arith, l))
+
+  pub started : {v : ℕ} → ((i : ℕ) → get_or area i 0 < 256) → v ≡ from_be_bytes w64 (a ∷ b ∷ c ∷ d ∷ e ∷ f ∷ g ∷ h ∷ [])
+      → (v < 256 ^ 8) × (v * 2 ^ bits area + rest area 8 ≡ number area * 256 ^ 8)
+  started bytes told = rw told (eight area (a ∷ b ∷ c ∷ d ∷ e ∷ f ∷ g ∷ h ∷ []) bytes one_by_one)
+
 zeros : (k j : ℕ) → get_or {A = ℕ} (replicate k 0) j 0 ≡ 0
 zeros zero j = refl
 zeros (suc k) zero = refl

@@ -233,9 +233,17 @@ impl<'a> BoolDecoder<'a> {
     pub fn new(area: &'a [u8]) -> Self
         ensures { Fresh area.entry result }
     {
-        let mut first = [0; 8];
-        let n = area.len().min(8);
-        first[..n].copy_from_slice(&area[..n]);
+        // Eight reads: a copy whose length is known at run time alone would ask a host for `memcpy`.
+        let first = [
+            byte_at(area, 0),
+            byte_at(area, 1),
+            byte_at(area, 2),
+            byte_at(area, 3),
+            byte_at(area, 4),
+            byte_at(area, 5),
+            byte_at(area, 6),
+            byte_at(area, 7),
+        ];
         let value = u64::from_be_bytes(first);
         let window = Window {
             range: BoolDecoder::START_RANGE,
