@@ -51,15 +51,14 @@ fn main(rt: HostRuntime) {
         let Some(of_offsets) = lines::take_byte(&mut input) else {
             return Ok(ControlFlow::Break(()));
         };
-        let of_lengths = lines::take_byte(&mut input).ok_or(CutShort)?;
+        // A second byte that does not come is more than a list has: the size, where that comes, is looked at before it.
+        let of_lengths = lines::take_byte(&mut input).map_or(256, usize::from);
         let size = lines::take_le4(&mut input)?.ok_or(CutShort)?;
         let file = lines::take_sized(&mut input, &mut file, size, 65536)?;
         let offsets = offsets
             .get_mut(..usize::from(of_offsets))
             .ok_or(Fault::TooLarge)?;
-        let lengths = lengths
-            .get_mut(..usize::from(of_lengths))
-            .ok_or(Fault::TooLarge)?;
+        let lengths = lengths.get_mut(..of_lengths).ok_or(Fault::TooLarge)?;
         fill(offsets, 1000000);
         fill(lengths, 2000000);
         let walked = ivf::walk(file, offsets, lengths);
